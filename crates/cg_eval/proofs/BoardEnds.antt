@@ -119,8 +119,7 @@ sound-played (faulty fault) h = tt
 
 pub sound-at : (kind : GameKind) (rules text : List ℕ) (q : Position) → position_of kind rules text ≡ q → IsSound q
 sound-at kind rules text q e =
-    let P : Position → Type 0 = λ z. IsSound z in
-    subst P e (sound-played (position_of kind rules text) (played kind rules text))
+    rw (← e) (sound-played (position_of kind rules text) (played kind rules text))
 
 -- ---- the items
 

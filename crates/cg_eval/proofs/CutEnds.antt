@@ -1,5 +1,5 @@
 -- The last item of a board by rules that cut is its value.
-use Rattle.std.proofs.Common.{◌≡◌, refl, ap, sym, ◌∙◌, subst, ℕ, true, List, [], ◌∷◌, ◌++◌, map}
+use Rattle.std.proofs.Common.{◌≡◌, refl, ap, sym, ◌∙◌, ℕ, true, List, [], ◌∷◌, ◌++◌, map}
 use Rattle.std.specs.List.{flat_map}
 use Rattle.std.proofs.lemmas.Grind.{flat_map-append}
 use Rattle.std.proofs.lemmas.List.{append-nil}
@@ -23,8 +23,7 @@ ends-added : (limit : ℕ) (g h : Game) (hs : List Game) → AreMade (added_item
     → EndsIn (can (added g (h ∷ hs))) (added_items limit g (h ∷ hs))
 ends-added limit g h [] m =
     let xs = sum_items limit (can g) (can h) in
-    let P : List Item → Type 0 = λ z. EndsIn (can (sum g h)) z in
-    subst P (sym (append-nil xs)) (ends-as (can (sum (can g) (can h))) (can (sum g h)) xs (can-sum_forms g h)
+    rw (append-nil xs) (ends-as (can (sum (can g) (can h))) (can (sum g h)) xs (can-sum_forms g h)
     (ends-sum limit (can g) (can h) (are_made-front xs [] m)))
 ends-added limit g h (k ∷ ks) m =
     let xs = sum_items limit (can g) (can h) in
@@ -36,10 +35,9 @@ module _ (limit : ℕ) (r : GameRules) where
   ends-piece : (q : Grid) (front qs : List Grid) → qs ≡ front ++ (q ∷ [])
       → EndsIn (can (raw r q)) (flat_map (piece_items limit r) qs)
   ends-piece q front qs e =
-      let P : List Item → Type 0 = λ z. EndsIn (can (raw r q)) z in
       let own = flat_map (joining_items limit r) (followers r q) in
-      subst P (sym (ap (flat_map (piece_items limit r)) e ∙ flat_map-append (piece_items limit r) front (q ∷ [])
-      ∙ ap (λ z. flat_map (piece_items limit r) front ++ z) (append-nil (piece_items limit r q))))
+      rw (ap (flat_map (piece_items limit r)) e ∙ flat_map-append (piece_items limit r) front (q ∷ [])
+      ∙ ap (λ z. flat_map (piece_items limit r) front ++ z) (append-nil (piece_items limit r q)))
       (ends-back (can (raw r q)) (flat_map (piece_items limit r) front) (own ++ (value_item r q ∷ []))
       (record { front = own; extra = 8; split = refl }))
 
@@ -57,9 +55,8 @@ module _ (limit : ℕ) (r : GameRules) where
         (record { front = []; extra = 0; split = ap (λ z. made z 0 ∷ []) (sum-of_pieces [] e) })
     ends-pieces (q ∷ []) e m =
         let xs = flat_map (piece_items limit r) (piece_reach_of r p) in
-        let P : List Item → Type 0 = λ z. EndsIn (can (raw r p)) z in
         let (front, last) = last-piece r lawful cut.each p q has e in
-        subst P (sym (append-nil xs)) (ends-as (can (raw r q)) (can (raw r p)) xs (sum-of_pieces (q ∷ []) e)
+        rw (append-nil xs) (ends-as (can (raw r q)) (can (raw r p)) xs (sum-of_pieces (q ∷ []) e)
         (ends-piece q front (piece_reach_of r p) last))
     ends-pieces (q ∷ s ∷ qs) e m =
         let xs = flat_map (piece_items limit r) (piece_reach_of r p) in

@@ -62,10 +62,9 @@ module _ {R : Type 0} (s t : State Meant (WorkRest R)) where
   pub zero_gives : (x : Number) (given : Result ℕ ValueFault) (result : Result ℕ NoValue) → result ≡ widened given
       → x ≡ zero_number → Gives s t (made (plain_number x) 0 ∷ []) (plain_number x) given → Finds s t None zero_items zero_form result
   zero_gives x given result w is gives =
-      let Q : Number → Type 0 = λ z. Finds s t None (made (plain_number z) 0 ∷ []) (plain_number z) result in
       let r = gives_from s t (made (plain_number x) 0 ∷ []) (plain_number x) (plain_number x) given
       (sym (can-fixed (plain_number x) tt)) gives in
-      subst Q is (finds s t (made (plain_number x) 0 ∷ []) (plain_number x) given result w r)
+      rw (← is) (finds s t (made (plain_number x) 0 ∷ []) (plain_number x) given result w r)
 
   pub used_gives : (word : List ℕ) (column : ℕ) (result : Result ℕ NoValue) → Finds s t None zero_items zero_form result
       → Evaluates s t (used word column) result
@@ -163,8 +162,7 @@ module _ {R : Type 0} (s t u : State Meant (WorkRest R)) where
       → Finds s u fault (is ++ step s.rest.limit (can m)) (last m) result
   stepped step last fault is m v given result w e (none, (game, makes)) r =
       let P : Game → Type 0 = λ z. Gives t u (step t.rest.limit z) (can (last z)) given in
-      let Q : ℕ → Type 0 = λ n. Gives t u (step n (can m)) (can (last (can m))) given in
-      let k : Gives t u (step s.rest.limit (can m)) (can (last (can m))) given = subst Q makes.keeps.limit (subst P
+      let k : Gives t u (step s.rest.limit (can m)) (can (last (can m))) given = rw (← makes.keeps.limit) (subst P
       (stands_game t v (can m) game) r) in
       finds_then s t u fault None is (step s.rest.limit (can m)) (last m) result none makes
       (finds_game t u None (step s.rest.limit (can m)) (last (can m)) (last m) result e
@@ -202,10 +200,9 @@ module _ {R : Type 0} (s t u : State Meant (WorkRest R)) where
       → Finds s u fault (is ++ sum_items s.rest.limit (game_at s so_far) (can m)) (plus (game_at s so_far) m) result
   sum_gives m fault is so_far v given result w known (none, (game, makes)) r =
       let g = game_at s so_far in
-      let P : Game → Type 0 = λ z. Gives t u (sum_items t.rest.limit z (game_at t v)) (can (plus z (game_at t v))) given in
       stepped (λ limit h. sum_items limit g h) (λ h. plus g h) fault is m v given result w
       (can-sum_comm g (can m) ∙ can-sum_form m g ∙ can-sum_comm m g)
-      (none, (game, makes)) (subst P (game_later s t makes.keeps.known so_far known) r)
+      (none, (game, makes)) (rw (← (game_later s t makes.keeps.known so_far known)) r)
 
 -- ---- where a part has no value
 
@@ -246,17 +243,15 @@ right_stopped s t u lefts rights cause none made_lefts r =
     let ls = all_items s.rest.limit lefts in
     let rs = all_items s.rest.limit rights in
     let both = first_of_two (fault_in_all lefts) (fault_in_all rights) in
-    let P : ℕ → Type 0 = λ n. Lacks t u (fault_in_all rights) (all_items n rights) cause in
     lacks_front s u both both (ls ++ rs) (made (can (options (meanings lefts) (meanings rights))) 0 ∷ []) cause (λ x f. f)
     (lacks_fault s u (fault_in_all rights) both (ls ++ rs) cause
     (sym (first_none (fault_in_all lefts) (fault_in_all rights) none))
-    (lacks_then s t u (fault_in_all rights) ls rs cause made_lefts (subst P made_lefts.keeps.limit r)))
+    (lacks_then s t u (fault_in_all rights) ls rs cause made_lefts (rw (← made_lefts.keeps.limit) r)))
 
 pub added_gives : {R : Type 0} (s t : State Meant (WorkRest R)) (e : Tree) (v : ℕ) → Evaluates s t e (Ok v)
     → Finds s t (fault_in e) (term_part s.rest.limit false e) (signed false (meaning e)) (Ok v)
 added_gives s t e v r =
-    let P : List Item → Type 0 = λ z. Makes s t z in
-    (r.0, (r.1.0, subst P (sym (append_none (items s.rest.limit e))) r.1.1))
+    (r.0, (r.1.0, rw (append_none (items s.rest.limit e)) r.1.1))
 
 -- ---- braces
 
@@ -285,10 +280,9 @@ module _ {R : Type 0} (s t u w : State Meant (WorkRest R)) where
       ∙ can-node (to_list (meanings lefts)) (to_list (meanings rights)) ∙ ap can whole_game in
       let own = made (can (node (games_at u hs) (games_at u ks))) 0 ∷ [] in
       let one = made (can whole) 0 ∷ [] in
-      let P : ℕ → Type 0 = λ n. Makes t u (all_items n rights) in
       let both : Makes s u (all_items s.rest.limit lefts ++ all_items s.rest.limit rights) =
       makes_then s t u (all_items s.rest.limit lefts) (all_items s.rest.limit rights) left_made
-      (subst P left_made.keeps.limit right_made) in
+      (rw (← left_made.keeps.limit) right_made) in
       let both_sound = first_none (fault_in_all lefts) (fault_in_all rights) left_sound ∙ right_sound in
       finds_then s u w (first_of_two (fault_in_all lefts) (fault_in_all rights)) None
       (all_items s.rest.limit lefts ++ all_items s.rest.limit rights) one whole result both_sound both

@@ -1,5 +1,5 @@
 -- A board is read back from the contents in which it is written.
-use Rattle.std.proofs.Common.{◌≡◌, refl, ℕ, zero, suc, ◌+◌, ◌*◌, ◌/◌, ◌%◌, ◌≤◌, inl, inr, true, false, Bool, List, [], ◌∷◌, ◌++◌, length, map, take, ap, sym, ◌∙◌, subst, arith}
+use Rattle.std.proofs.Common.{◌≡◌, refl, ℕ, zero, suc, ◌+◌, ◌*◌, ◌/◌, ◌%◌, ◌≤◌, inl, inr, true, false, Bool, List, [], ◌∷◌, ◌++◌, length, map, take, ap, sym, ◌∙◌, arith}
 use Rattle.std.specs.Prelude.{◌==◌, if◌then◌else◌, bytes_eq, slice_index, codes}
 use Rattle.std.proofs.Math.Seq.{take-append-add}
 use Rattle.std.proofs.lemmas.Bool.{and_parts}
@@ -53,8 +53,7 @@ pub read-back : (contents cells : List ℕ) → AreWritten cells contents → Ar
 read-back [] cells w b = let e = ap length w in
     ap (λ z. take (length z) []) w ∙ sym w
 read-back (content ∷ rest) cells (front, others, e, which, is, w) b =
-    let P : List ℕ → Type 0 = λ z. AreBelow 4 z in
-    let both = subst P e b in
+    let both = rw e at b in
     let bf = below-front front others both in
     let bo = below-back front others both in
     let more = flat_map (fields 16) rest in

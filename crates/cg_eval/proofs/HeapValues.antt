@@ -1,5 +1,5 @@
 -- The value of a heap of an octal game, from the nimber that it equals.
-use Rattle.std.proofs.Common.{◌≡◌, refl, ap, sym, ◌∙◌, ℕ, suc, ◌+◌, ◌<◌, ◌≤◌, arith, inr, List, [], ◌∷◌, get_or, length, map, nat_lt, false, subst}
+use Rattle.std.proofs.Common.{◌≡◌, refl, ap, sym, ◌∙◌, ℕ, suc, ◌+◌, ◌<◌, ◌≤◌, arith, inr, List, [], ◌∷◌, get_or, length, map, nat_lt, false}
 use Rattle.std.proofs.Common.{None, Result, Ok, if◌then◌else◌}
 use Rattle.std.proofs.lemmas.Bool.Decides.{nat_tests}
 use Rattle.std.proofs.lemmas.Option.{slice_get-get_or}
@@ -71,17 +71,13 @@ value-there digits ks n v l = v.equal n (get_or ks n 0) (slice_get-get_or ks n 0
 pub value-read : (digits all ks : List ℕ) (n m : ℕ) → ks ≡ all → m ≡ n → AreValues digits all → length all ≡ n + 1
     → Equal (heap digits n) (nimber_form (get_or ks m 0))
 value-read digits all ks n m e f v c =
-    let P : List ℕ → Type 0 = λ z. Equal (heap digits n) (nimber_form (get_or z m 0)) in
-    let Q : ℕ → Type 0 = λ z. Equal (heap digits n) (nimber_form (get_or all z 0)) in
-    subst P (sym e) (subst Q (sym f) (value-there digits all n v (omega (arith, c))))
+    rw e (rw f (value-there digits all n v (omega (arith, c))))
 
 pub value-small : (digits all ks : List ℕ) (n m : ℕ) → ks ≡ all → m ≡ n → AreValues digits all → length all ≡ n + 1
     → get_or ks m 0 ≤ n
 value-small digits all ks n m e f v c =
-    let P : List ℕ → Type 0 = λ z. get_or z m 0 ≤ n in
-    let Q : ℕ → Type 0 = λ z. get_or all z 0 ≤ n in
     let l : n < length all = omega (arith, c) in
-    subst P (sym e) (subst Q (sym f) (v.at_most n (get_or all n 0) (slice_get-get_or all n 0 l)))
+    rw e (rw f (v.at_most n (get_or all n 0) (slice_get-get_or all n 0 l)))
 
 -- what the call that makes the nimber says
 pub nimber-finds : {R : Type 0} (s t : State Meant (WorkRest R)) (o : OctalHeap) (k : ℕ) (given : Result ℕ ValueFault)

@@ -73,15 +73,13 @@ ends-literal : (limit : ℕ) (form : Number → Game) (o all : Option Number)
 ends-literal limit form None all h m = absurd (not_outside m)
 ends-literal limit form (Some x) all h m =
     let (e, c) = h x refl in
-    let P : Option Number → Type 0 = λ z. EndsIn (can (form (or_zero z))) (form_items limit (form x)) in
-    subst P (sym e) (ends-form limit (form x) c m)
+    rw e (ends-form limit (form x) c m)
 
 ends-number : (o all : Option Number) → ((x : Number) → o ≡ Some x → all ≡ Some x)
     → AreMade (number_made o 0 ∷ []) → EndsIn (can (plain_number (or_zero all))) (number_made o 0 ∷ [])
 ends-number None all h m = absurd (not_outside m)
 ends-number (Some x) all h m =
-    let P : Option Number → Type 0 = λ z. EndsIn (can (plain_number (or_zero z))) (made (plain_number x) 0 ∷ []) in
-    subst P (sym (h x refl)) (one_number x)
+    rw (h x refl) (one_number x)
 
 -- ---- heaps
 
@@ -104,7 +102,7 @@ ends-signed limit true g is e m =
     (ends-as (can (minus (can g))) (can (minus g)) (negative_items limit (can g)) (can-negative_form g)
     (ends-negative limit (can g) (are_made-back is (negative_items limit (can g)) m)))
 ends-signed limit false g is e m =
-    let P : List Item → Type 0 = λ z. EndsIn (can g) z in subst P (sym (append_none is)) e
+    rw (append_none is) e
 
 mutual
   unfolding items meaning_by

@@ -1,5 +1,5 @@
 -- The last of the items of a step.
-use Rattle.std.proofs.Common.{◌≡◌, refl, ℕ, zero, suc, ◌*◌, ap, sym, ◌∙◌, subst, List, [], ◌∷◌, ◌++◌, append_assoc, map, length, nat_lt, inl, inr}
+use Rattle.std.proofs.Common.{◌≡◌, refl, ℕ, zero, suc, ◌*◌, ap, sym, ◌∙◌, List, [], ◌∷◌, ◌++◌, append_assoc, map, length, nat_lt, inl, inr}
 use Rattle.std.specs.List.{flat_map}
 use Rattle.cg_dyadic.proofs.Truth.{true_or_false}
 use Rattle.cg_form.specs.Canonical.{Canonical}
@@ -67,7 +67,7 @@ ends-back g xs ys e = record {
 }
 
 pub ends-as : (g h : Game) (items : List Item) → g ≡ h → EndsIn g items → EndsIn h items
-ends-as g h items s e = let P : Game → Type 0 = λ k. EndsIn k items in subst P s e
+ends-as g h items s e = rw (← s) e
 
 -- positions, with the game itself last
 pub record LastIs (g : Game) (gs : List Game) : Type 0 where
@@ -114,14 +114,13 @@ append_none (i ∷ is) = ap (λ z. i ∷ z) (append_none is)
 
 flat_map_last : (rows : Game → List Item) (k g : Game) (hs : List Game) → EndsIn k (rows g)
     → EndsIn k (flat_map rows (hs ++ (g ∷ [])))
-flat_map_last rows k g [] e = let Q : List Item → Type 0 = λ z. EndsIn k z in subst Q (sym (append_none (rows g))) e
+flat_map_last rows k g [] e = rw (append_none (rows g)) e
 flat_map_last rows k g (h ∷ hs) e = ends-back k (rows h) (flat_map rows (hs ++ (g ∷ []))) (flat_map_last rows k g hs e)
 
 ends-flat_map : (rows : Game → List Item) (k g : Game) (gs : List Game) → EndsIn k (rows g) → LastIs g gs
     → EndsIn k (flat_map rows gs)
 ends-flat_map rows k g gs e l =
-    let P : List Game → Type 0 = λ z. EndsIn k (flat_map rows z) in
-    subst P (sym l.split) (flat_map_last rows k g l.front e)
+    rw l.split (flat_map_last rows k g l.front e)
 
 -- the form of the sum
 pub ends-sum : (limit : ℕ) (g h : Game) → AreMade (sum_items limit g h) → EndsIn (can (sum g h)) (sum_items limit g h)
@@ -151,8 +150,7 @@ ends-multiple limit zero g items c e m = record {
   split = ap (λ k. items ++ (made k 0 ∷ [])) (sym (can-multiple_zero g));
 }
 ends-multiple limit (suc zero) g items c e m =
-    let P : List Item → Type 0 = λ z. EndsIn (can (multiple 1 g)) z in
-    subst P (sym (append_none items)) (ends-as g (can (multiple 1 g)) items (sym (can-multiple_one g c)) e)
+    rw (append_none items) (ends-as g (can (multiple 1 g)) items (sym (can-multiple_one g c)) e)
 ends-multiple limit (suc (suc n)) g items c e m =
     ends-back (can (multiple (suc (suc n)) g)) items (step_items limit (suc n) g)
     (ends-steps limit n g (are_made-back items (step_items limit (suc n) g) m))

@@ -160,11 +160,9 @@ pub record AllMade {R : Type 0} (s t : State Meant (WorkRest R)) (ts : List Tree
 
 pub all_made-none : {R : Type 0} (s : State Meant (WorkRest R)) (hs : List ℕ) → hs ≡ [] → AllMade s s [] hs
 all_made-none s hs e =
-    let P : List ℕ → Type 0 = λ z. StandFor s z (map can (to_list (meanings (trees_from [])))) in
-    let Q : List Game → Type 0 = λ z. StandFor s [] z in
     record {
       sound = refl;
-      games = subst P (sym e) (subst Q (sym forms-none) (tt, refl));
+      games = rw e (rw forms-none (tt, refl));
       made = makes_items s s [] (all_items s.rest.limit (trees_from [])) (sym (all_items-none s.rest.limit))
           (makes_none s);
     }
@@ -175,7 +173,6 @@ module _ {R : Type 0} (s t u : State Meant (WorkRest R)) where
       → AllMade s u (ts ++ (x ∷ [])) ks
   all_made-more ts hs ks x h a (sound, (game, done)) e =
       let P : List Game → Type 0 = λ z. StandFor u (hs ++ (h ∷ [])) z in
-      let Q : List ℕ → Type 0 = λ z. StandFor u z (map can (to_list (meanings (trees_from (ts ++ (x ∷ [])))))) in
       let N : ℕ → Type 0 = λ n. Makes t u (items n x) in
       let forms : map can (to_list (meanings (trees_from (ts ++ (x ∷ []))))) ≡ map can (to_list (meanings
       (trees_from ts))) ++ (can (meaning x) ∷ []) =
@@ -187,7 +184,7 @@ module _ {R : Type 0} (s t u : State Meant (WorkRest R)) where
       record {
         sound = all-append ts (x ∷ []) ∙ first_none (fault_in_all (trees_from ts)) (fault_in_all (trees_from (x ∷ []))) a.sound
             ∙ ap (λ z. first_of_two z None) sound;
-        games = subst Q (sym e) (subst P (sym forms) (stand-more u hs (map can (to_list (meanings
+        games = rw e (subst P (sym forms) (stand-more u hs (map can (to_list (meanings
             (trees_from ts)))) h (can (meaning x))
             (stand_later t u done.keeps.known hs (map can (to_list (meanings (trees_from ts)))) a.games) game));
         made = makes_items s u (all_items s.rest.limit (trees_from ts) ++ items s.rest.limit x)
@@ -203,8 +200,7 @@ module _ {R : Type 0} (s t u : State Meant (WorkRest R)) where
       let trees : trees_of (take (i + 1) es) ≡ trees_of (take i es) ++ (tree_of e ∷ []) =
       ap (λ (n : ℕ). trees_of (take n es)) (let n : i + 1 ≡ suc i = omega arith in n)
       ∙ trees_of-take_suc es i e below at in
-      let P : List Tree → Type 0 = λ z. AllMade s u z ks in
-      subst P (sym trees) (all_made-more (trees_of (take i es)) hs ks (tree_of e) h a b more)
+      rw trees (all_made-more (trees_of (take i es)) hs ks (tree_of e) h a b more)
 
   -- an expression after those so far has no value
   pub all_stopped : (es : List Expr) (ts : List Tree) (i : ℕ) (e : Expr) (hs : List ℕ) (cause : NoValue)
@@ -216,7 +212,6 @@ module _ {R : Type 0} (s t u : State Meant (WorkRest R)) where
       let front = trees_of (take i es) in
       let back = trees_of (drop (suc i) es) in
       let rest = first_of_two (fault_in (tree_of e)) (fault_in_all (trees_from back)) in
-      let N : ℕ → Type 0 = λ n. Lacks t u (fault_in (tree_of e)) (items n (tree_of e)) cause in
       let fault : rest ≡ fault_in_all (trees_from ts) =
       sym (ap (λ (z : List Tree). fault_in_all (trees_from z)) (sym is ∙ trees_of-split es i e below at)
       ∙ all-append front (tree_of e ∷ back) ∙ first_none (fault_in_all (trees_from front)) rest a.sound) in
@@ -232,7 +227,7 @@ module _ {R : Type 0} (s t u : State Meant (WorkRest R)) where
       ++ all_items s.rest.limit (trees_from back)) cause a.made
       (lacks_front t u (fault_in (tree_of e)) rest (items s.rest.limit (tree_of e)) (all_items s.rest.limit (trees_from back))
       cause (λ x f. first_some (fault_in (tree_of e)) (fault_in_all (trees_from back)) x f)
-      (subst N a.made.keeps.limit r))))
+      (rw (← a.made.keeps.limit) r))))
 
 pub all_made-all : {R : Type 0} (s t : State Meant (WorkRest R)) (es : List Expr) (ts : List Tree) (i : ℕ)
     (hs : List ℕ) → trees_of es ≡ ts → length es ≤ i
@@ -240,9 +235,7 @@ pub all_made-all : {R : Type 0} (s t : State Meant (WorkRest R)) (es : List Expr
     → (fault_in_all (trees_from ts) ≡ None) × (StandFor t hs (map can (to_list (meanings (trees_from ts)))) × Makes s t
     (all_items s.rest.limit (trees_from ts)))
 all_made-all s t es ts i hs is end a =
-    let P : List Tree → Type 0 = λ z. (fault_in_all (trees_from z) ≡ None) × (StandFor t hs (map can (to_list
-    (meanings (trees_from z)))) × Makes s t (all_items s.rest.limit (trees_from z))) in
-    subst P (ap (λ (z : List Expr). trees_of z) (take_all i es end) ∙ is) (a.sound, (a.games, a.made))
+    rw (← (ap (λ (z : List Expr). trees_of z) (take_all i es end) ∙ is)) (a.sound, (a.games, a.made))
 
 -- ---- lists of terms
 
@@ -259,12 +252,11 @@ pub added-none : {R : Type 0} (s : State Meant (WorkRest R)) (start : ℕ) → I
 added-none s start k = record {
   sound = refl;
   known = k;
-  sums = λ g h.
-      let P : Game → Type 0 = λ z. StandsFor s start (can z) in (
-        subst P (sym (total-none g)) h,
-        makes_items s s [] (further_items s.rest.limit g (terms_from [])) (sym
-            (further-none s.rest.limit g)) (makes_none s),
-      );
+  sums = λ g h. (
+    rw (total-none g) h,
+    makes_items s s [] (further_items s.rest.limit g (terms_from [])) (sym
+        (further-none s.rest.limit g)) (makes_none s),
+  );
 }
 
 -- adding the term to the game of a handle, whatever game that is
@@ -282,10 +274,8 @@ pub adds : {R : Type 0} (t u : State Meant (WorkRest R)) (so_far : ℕ) (subtrac
     → Adds t u so_far subtracted x result
 adds t u so_far subtracted x result r g h =
     let m = signed subtracted (meaning x) in
-    let P : Game → Type 0 = λ z. Finds t u (fault_in x) (term_part t.rest.limit subtracted x ++ sum_items t.rest.limit z
-    (can m)) (plus z m) result in
     finds_game t u (fault_in x) (added_items t.rest.limit g subtracted x) (plus (can g) m) (plus g m) result (can-sum_form g m)
-    (subst P (stands_game t so_far (can g) h) r)
+    (rw (← (stands_game t so_far (can g) h)) r)
 
 module _ {R : Type 0} (s t u : State Meant (WorkRest R)) where
   added-more : (start so_far next : ℕ) (ts : List (Bool × Tree)) (subtracted : Bool) (x : Tree) → IsGame u next
@@ -300,19 +290,17 @@ module _ {R : Type 0} (s t u : State Meant (WorkRest R)) where
         let (game, done) = a.sums g h in
         let sum_so_far = total_with g (terms_from ts) in
         let (sum_sound, (sum_game, sum_made)) = r sum_so_far game in
-        let P : Game → Type 0 = λ z. StandsFor u next (can z) in
-        let N : ℕ → Type 0 = λ n. Makes t u (added_items n sum_so_far subtracted x) in
         let all : further_items s.rest.limit g (terms_from (ts ++ ((subtracted, x) ∷ [])))
         ≡ further_items s.rest.limit g (terms_from ts) ++ added_items s.rest.limit sum_so_far subtracted x =
         further-append s.rest.limit g ts ((subtracted, x) ∷ [])
         ∙ ap (λ z. further_items s.rest.limit g (terms_from ts) ++ z) (further-one s.rest.limit sum_so_far
         (subtracted, x)) in (
-          subst P (sym (total-append g ts ((subtracted, x) ∷ []) ∙ total-one sum_so_far (subtracted, x))) sum_game,
+          rw (total-append g ts ((subtracted, x) ∷ []) ∙ total-one sum_so_far (subtracted, x)) sum_game,
           makes_items s u (further_items s.rest.limit g (terms_from ts)
               ++ added_items s.rest.limit sum_so_far subtracted x)
               (further_items s.rest.limit g (terms_from (ts ++ ((subtracted, x) ∷ [])))) (sym all)
               (makes_then s t u (further_items s.rest.limit g (terms_from ts))
-              (added_items s.rest.limit sum_so_far subtracted x) done (subst N done.keeps.limit sum_made)),
+              (added_items s.rest.limit sum_so_far subtracted x) done (rw (← done.keeps.limit) sum_made)),
         );
   }
 
@@ -325,8 +313,7 @@ module _ {R : Type 0} (s t u : State Meant (WorkRest R)) where
       ap (λ (n : ℕ). terms_of (take n es)) (let n : i + 1 ≡ suc i = omega arith in n)
       ∙ terms_of-take_suc es i e below at
       ∙ ap (λ (x : Bool × Tree). terms_of (take i es) ++ (x ∷ [])) (term_tree e.minus e.expr) in
-      let P : List (Bool × Tree) → Type 0 = λ z. AreAdded s u start next z in
-      subst P (sym trees) (added-more start so_far next (terms_of (take i es)) e.minus (tree_of e.expr) k sound a r)
+      rw trees (added-more start so_far next (terms_of (take i es)) e.minus (tree_of e.expr) k sound a r)
 
   pub added-stopped : (es : List Term) (i : ℕ) (e : Term) (start so_far : ℕ) (cause : NoValue) → i < length es
       → e ≡ get_or es i e
@@ -341,7 +328,6 @@ module _ {R : Type 0} (s t u : State Meant (WorkRest R)) where
       let sum_so_far = total_with g (terms_from front) in
       let next = plus sum_so_far (signed x.0 (meaning x.1)) in
       let rest = first_of_two (fault_in x.1) (fault_in_terms (terms_from back)) in
-      let N : ℕ → Type 0 = λ n. Lacks t u (fault_in x.1) (added_items n sum_so_far x.0 x.1) cause in
       let split : terms_of es ≡ front ++ (x ∷ back) =
       terms_of-split es i e below at ∙ ap (λ (y : Bool × Tree). front ++ (y ∷ back)) (term_tree e.minus e.expr) in
       let fault : rest ≡ fault_in_terms (terms_from (terms_of es)) =
@@ -362,7 +348,7 @@ module _ {R : Type 0} (s t u : State Meant (WorkRest R)) where
       (added_items s.rest.limit sum_so_far x.0 x.1 ++ further_items s.rest.limit next (terms_from back)) cause done
       (lacks_front t u (fault_in x.1) rest (added_items s.rest.limit sum_so_far x.0 x.1) (further_items s.rest.limit next
       (terms_from back)) cause (λ y f. first_some (fault_in x.1) (fault_in_terms (terms_from back)) y f)
-      (subst N done.keeps.limit (r sum_so_far game)))))
+      (rw (← done.keeps.limit) (r sum_so_far game)))))
 
 pub added-all : {R : Type 0} (s t : State Meant (WorkRest R)) (es : List Term) (i start so_far : ℕ) → length es ≤ i
     → AreAdded s t start so_far (terms_of (take i es))
@@ -370,9 +356,7 @@ pub added-all : {R : Type 0} (s t : State Meant (WorkRest R)) (es : List Term) (
     → Finds s t (fault_in_terms (terms_from (terms_of es))) (further_items s.rest.limit g (terms_from (terms_of es)))
     (total_with g (terms_from (terms_of es))) (Ok so_far)
 added-all s t es i start so_far end a g h =
-    let P : List (Bool × Tree) → Type 0 = λ z. (fault_in_terms (terms_from z) ≡ None) × (StandsFor t so_far (can (total_with g
-    (terms_from z))) × Makes s t (further_items s.rest.limit g (terms_from z))) in
-    subst P (ap (λ (z : List Term). terms_of z) (take_all i es end)) (a.sound, a.sums g h)
+    rw (← (ap (λ (z : List Term). terms_of z) (take_all i es end))) (a.sound, a.sums g h)
 
 -- ---- the sum of all terms
 
@@ -387,10 +371,9 @@ unfolding items meaning_by
 sum_of_terms s t u ts subtracted x start result (sound, (game, done)) r =
     let g = signed subtracted (meaning x) in
     let rest = fault_in_terms (terms_from ts) in
-    let N : ℕ → Type 0 = λ n. Finds t u rest (further_items n g (terms_from ts)) (total_with g (terms_from ts)) result in
     finds_then s t u (first_of_two (fault_in x) rest) rest (term_part s.rest.limit subtracted x)
     (further_items s.rest.limit g (terms_from ts)) (total_with g (terms_from ts)) result
-    (first_none (fault_in x) rest sound) done (subst N done.keeps.limit (r g game))
+    (first_none (fault_in x) rest sound) done (rw (← done.keeps.limit) (r g game))
 
 pub first_term_stopped : {R : Type 0} (s t : State Meant (WorkRest R)) (ts : List (Bool × Tree)) (subtracted : Bool)
     (x : Tree) (cause : NoValue) → Lacks s t (fault_in x) (term_part s.rest.limit subtracted x) cause
@@ -405,9 +388,7 @@ pub no_terms_find : {R : Type 0} (s t : State Meant (WorkRest R)) (ts : List (Bo
     → ts ≡ [] → Finds s t None zero_items zero_form result → Evaluates s t (sum (terms_from ts)) result
 unfolding items meaning_by
 no_terms_find s t ts result none r =
-    let P : List (Bool × Tree) → Type 0 = λ z. Finds s t (fault_in_terms (terms_from z)) (term_items s.rest.limit
-    (terms_from z)) (total (terms_from z)) result in
-    subst P (sym none) r
+    rw none r
 
 -- ---- the first of the terms
 

@@ -1,5 +1,5 @@
 -- What a text says of the board that it reads as.
-use Rattle.std.proofs.Common.{◌≡◌, refl, subst, ℕ, ◌+◌, ◌*◌, ◌<◌, ◌/◌, ◌==◌, arith, Bool, true, false, Option, Some, None, Result, Ok, List}
+use Rattle.std.proofs.Common.{◌≡◌, refl, ℕ, ◌+◌, ◌*◌, ◌<◌, ◌/◌, ◌==◌, arith, Bool, true, false, Option, Some, None, Result, Ok, List}
 use Rattle.std.proofs.Common.{if◌then◌else◌, length, nat_lt, eq-eqb}
 use Rattle.std.specs.Prelude.{bytes_eq, position}
 use Rattle.std.specs.List.{flat_map}
@@ -64,8 +64,7 @@ read-by symbols one_row text p e =
     let b = passed Empty empty (refused_at Ragged other (refused_at Large large read)) p a.1 in
     let c = passed Ragged other (refused_at Large large read) p b.1 in
     let d = passed Large large read p c.1 in
-    let P : Grid → Type 0 = λ q. IsReadBy symbols one_row text q in
-    subst P (same_grid grid p d.1) (record {
+    rw (← (same_grid grid p d.1)) (record {
       symbols_are = refl;
       rows_are = refl;
       wide = some_column columns b.0;

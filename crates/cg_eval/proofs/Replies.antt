@@ -40,9 +40,8 @@ use Rattle.cg_eval.proofs.Verdicts.{verdict-decided, verdict-stopped}
 pub makes_spends : {R : Type 0} (s t u : State Meant (WorkRest R)) (is : List Item) → Makes s t is → Spends 0 t u
     → Makes s u is
 makes_spends {R} s t u is m k =
-    let P : ℕ → Type 0 = λ n. AllPass s.rest.share s.rest.spent is n in
     record {
-      passed = subst P (sym (ap (λ (r : WorkRest R). r.spent) k.rest)) m.passed;
+      passed = rw (ap (λ (r : WorkRest R). r.spent) k.rest) m.passed;
       more = let a = m.more in let b = k.spare in omega arith;
       keeps = keeps_then s t u m.keeps (spends_keeps 0 t u k);
     }
@@ -61,7 +60,7 @@ le-forms m n = le-equal (can m) (can n) m n (can-equal m) (can-equal n)
 handle-none : {R : Type 0} (s : State Meant R) (q : Question) (refused : Bool) (handle : Option ℕ) → refused ≡ true
     → handle ≡ None
     → HandleIs s q refused handle
-handle-none s q refused handle e h = let P : Bool → Type 0 = λ b. HandleIs s q b handle in subst P (sym e) h
+handle-none s q refused handle e h = rw e h
 
 some_none : {A : Type 0} {x : A} → Some x ≡ None → ⊥
 some_none e = cc
@@ -71,9 +70,8 @@ pub answered-ill_formed : {R : Type 0} (share limit : ℕ) (s : State Meant R) (
     (fault : GameFault) → question_fault q ≡ Some fault
     → IsRefusedBy (ill_formed fault) a → IsAnswered share limit s q a
 answered-ill_formed share limit s q a fault e r =
-    let P : Option GameFault → Type 0 = λ o. IsReplyBy o share limit q (shown a) in
     record {
-      reply = subst P (sym e) r.text;
+      reply = rw e r.text;
       handle = handle-none s q a.refused a.handle (ap (λ (p : Piece). p.refused) r.text) r.handle;
       deep = λ none total passed. absurd (some_none (sym e ∙ none));
     }
@@ -81,10 +79,8 @@ answered-ill_formed share limit s q a fault e r =
 pub answered-made : {R : Type 0} (s t : State Meant (WorkRest R)) (q : Question) (a : Answered) → s.rest.spent ≡ 0
     → Answers s t q (Ok a) → IsAnswered s.rest.share s.rest.limit t q a
 answered-made s t q a none (e, (is, made_items)) =
-    let P : Option GameFault → Type 0 = λ o. IsReplyBy o s.rest.share s.rest.limit q (shown a) in
-    let N : ℕ → Type 0 = λ n. AllPass s.rest.share n (question_items s.rest.limit q) t.rest.spent in
     record {
-      reply = subst P (sym e) (inl (t.rest.spent, subst N none made_items.passed, is.text));
+      reply = rw e (inl (t.rest.spent, rw (← none) made_items.passed, is.text));
       handle = is.value;
       deep = λ _ total passed. is.deep;
     }
@@ -94,13 +90,11 @@ stopped-reply : {R : Type 0} (s t : State Meant (WorkRest R)) (q : Question) (a 
     → question_fault q ≡ None → IsStopped fault s.rest.share s.rest.spent (question_items s.rest.limit q) t.rest.spent
     → IsRefusedBy (refusal_of fault) a → (refusal_of fault).refused ≡ true → IsAnswered s.rest.share s.rest.limit t q a
 stopped-reply s t q a fault none e stopped r is_refusal =
-    let P : Option GameFault → Type 0 = λ o. IsReplyBy o s.rest.share s.rest.limit q (shown a) in
-    let N : ℕ → Type 0 = λ n. IsStopped fault s.rest.share n (question_items s.rest.limit q) t.rest.spent in
     record {
-      reply = subst P (sym e) (inr (fault, t.rest.spent, subst N none stopped, r.text));
+      reply = rw e (inr (fault, t.rest.spent, rw (← none) stopped, r.text));
       handle = handle-none t q a.refused a.handle (ap (λ (p : Piece). p.refused) r.text ∙ is_refusal) r.handle;
       deep = λ _ total passed.
-          absurd (verdict-apart fault s.rest.share 0 (question_items s.rest.limit q) total t.rest.spent passed (subst N none stopped));
+          absurd (verdict-apart fault s.rest.share 0 (question_items s.rest.limit q) total t.rest.spent passed (rw (← none) stopped));
     }
 
 refused-item : {R : Type 0} (s t : State Meant (WorkRest R)) (q : Question) (a : Answered)
@@ -130,7 +124,7 @@ pub reply-read : (share limit : ℕ) (line : List ℕ) (q : Question) (reply : P
     → Reads line p → Reads line r → p ≡ r)
     → Reads line q → IsReplyTo share limit q reply → IsReply share limit line reply
 reply-read share limit line q reply one reads is = record {
-  read = λ p h. let P : Question → Type 0 = λ r. IsReplyTo share limit r reply in subst P (one q p reads h) is;
+  read = λ p h. rw (← (one q p reads h)) is;
   unread = λ c u. absurd (u.no_question q reads);
 }
 
@@ -204,15 +198,14 @@ some-reply share limit line one one_column blank comment (inr (none, (c, at))) =
 -- the first expression's items, then the second's
 pub both_made : {R : Type 0} (s t u : State Meant (WorkRest R)) (a b : Tree) (v w : ℕ) → Evaluates s t a (Ok v)
     → Evaluates t u b (Ok w) → EvaluatesTwo s u a b (Ok (v, w))
-both_made s t u a b v w (first_sound, (first, first_made)) (second_sound, (second, second_made)) =
-    let P : ℕ → Type 0 = λ n. Makes t u (items n b) in (
-      first_none (fault_in a) (fault_in b) first_sound ∙ second_sound,
-      (
-        (stands_later t u second_made.keeps.known v (can (meaning a)) first, second),
-        makes_then s t u (items s.rest.limit a) (items s.rest.limit b) first_made
-            (subst P first_made.keeps.limit second_made),
-      ),
-    )
+both_made s t u a b v w (first_sound, (first, first_made)) (second_sound, (second, second_made)) = (
+  first_none (fault_in a) (fault_in b) first_sound ∙ second_sound,
+  (
+    (stands_later t u second_made.keeps.known v (can (meaning a)) first, second),
+    makes_then s t u (items s.rest.limit a) (items s.rest.limit b) first_made
+        (rw (← first_made.keeps.limit) second_made),
+  ),
+)
 
 pub first_stopped : {R : Type 0} (s t : State Meant (WorkRest R)) (a b : Tree) (cause : NoValue)
     → Evaluates s t a (Err cause) → EvaluatesTwo s t a b (Err cause)
@@ -223,11 +216,10 @@ first_stopped s t a b cause r =
 pub second_stopped : {R : Type 0} (s t u : State Meant (WorkRest R)) (a b : Tree) (v : ℕ) (cause : NoValue)
     → Evaluates s t a (Ok v) → Evaluates t u b (Err cause) → EvaluatesTwo s u a b (Err cause)
 second_stopped s t u a b v cause (sound, (first, first_made)) r =
-    let P : ℕ → Type 0 = λ n. Lacks t u (fault_in b) (items n b) cause in
     lacks_fault s u (fault_in b) (first_of_two (fault_in a) (fault_in b)) (items s.rest.limit a ++ items s.rest.limit b) cause
     (sym (first_none (fault_in a) (fault_in b) sound))
     (lacks_then s t u (fault_in b) (items s.rest.limit a) (items s.rest.limit b) cause first_made
-    (subst P first_made.keeps.limit r))
+    (rw (← first_made.keeps.limit) r))
 
 -- ---- the handle of a work is one of its store
 
@@ -248,14 +240,10 @@ pub answered-store : {S R : Type 0} (state : S
     → x ≡ w.store.now → m ≡ share → n ≡ limit → IsAnswered m n (work_state state w) q a
     → IsAnswered share limit (state x) q a
 answered-store state w x q a share limit m n e f g is =
-    let P : ℕ → Type 0 = λ i. IsReplyTo i n q (shown a) in
-    let Q : ℕ → Type 0 = λ i. IsReplyTo share i q (shown a) in
-    let D : ℕ → Type 0 = λ i. question_fault q ≡ None → (total : ℕ) → AllPass i 0 (question_items n q) total → IsDeep q in
-    let E : ℕ → Type 0 = λ i. question_fault q ≡ None → (total : ℕ) → AllPass share 0 (question_items i q) total → IsDeep q in
     record {
-      reply = subst Q g (subst P f is.reply);
+      reply = rw (← g) (rw (← f) is.reply);
       handle = rw e (handle-store state w q a.refused a.handle is.handle);
-      deep = subst E g (subst D f is.deep);
+      deep = rw (← g) (rw (← f) is.deep);
     }
 
 pub keeps-store : {S R : Type 0} (state : S → State Meant R) (w v : WorkOf S) (x y : S) → w.store.now ≡ x

@@ -68,7 +68,7 @@ module _ {R : Type 0} (s t : State Meant (WorkRest R)) where
 
   pub lacks_fault : (f g : Option GameFault) (is : List Item) (cause : NoValue) → f ≡ g → Lacks s t f is cause
       → Lacks s t g is cause
-  lacks_fault f g is cause e m = let P : Option GameFault → Type 0 = λ z. Lacks s t z is cause in subst P e m
+  lacks_fault f g is cause e m = rw (← e) m
 
   -- whatever comes behind
   pub lacks_front : (f g : Option GameFault) (is js : List Item) (cause : NoValue)
@@ -104,10 +104,9 @@ module _ {R : Type 0} (s t u : State Meant (WorkRest R)) where
       → Lacks s u fault (is ++ js) cause
   lacks_then fault is js (IllFormed x) a b = (b.0, keeps_then s t u a.keeps b.1)
   lacks_then fault is js (Refused x) a b =
-      let P : ℕ → Type 0 = λ n. WasRefused x n t.rest.spent js u.rest.spent in
       record {
         refused = refused-back x s.rest.share s.rest.spent t.rest.spent u.rest.spent is js a.passed
-            (subst P a.keeps.share b.refused);
+            (rw (← a.keeps.share) b.refused);
         more = let m = a.more in let n = b.more in omega arith;
         keeps = keeps_then s t u a.keeps b.keeps;
       }

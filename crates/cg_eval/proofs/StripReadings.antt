@@ -93,7 +93,7 @@ even_in : (rules : List Rule) (r : Rule) → All (λ r. length r.pattern ≡ len
     → length r.pattern ≡ length r.replacement
 even_in [] r h m = absurd m
 even_in (v ∷ rules) r h (inl e) =
-    let P : Rule → Type 0 = λ z. length z.pattern ≡ length z.replacement in subst P (sym e) (h 0 v (omega arith))
+    rw e (h 0 v (omega arith))
 even_in (v ∷ rules) r h (inr m) = even_in rules r (λ k d below. h (suc k) d (omega arith)) m
 
 -- where all rules lower the sum, none is the first that doesn't
@@ -139,7 +139,7 @@ first-found : (book : Rulebook) (size k : ℕ) → All (λ r. length r.pattern �
 first-found book size k even a = by (first_rising book.weights size 0 book.rules) refl
   where
     there : In a.rule book.rules
-    there = let P : List Rule → Type 0 = λ z. In a.rule z in subst P (sym a.split) (in_list a.before a.behind a.rule)
+    there = rw a.split (in_list a.before a.behind a.rule)
 
     own : length a.rule.pattern ≡ length a.rule.replacement
     own = even_in book.rules a.rule even there
@@ -155,8 +155,7 @@ first-found book size k even a = by (first_rising book.weights size 0 book.rules
 book-sound : (rules : List ℕ) (book : Rulebook) → IsReadAs rules book → IsRulebook book
 book-sound rules book a =
     let (t, w, f, b) = read-as rules book a in
-    let P : Rulebook → Type 0 = λ z. IsRulebook z in
-    subst P (sym b) (book_sound t rules (takes rules t w) f)
+    rw b (book_sound t rules (takes rules t w) f)
 
 even-rules : (rules : List ℕ) (book : Rulebook) → IsReadAs rules book
     → All (λ r. length r.pattern ≡ length r.replacement) book.rules

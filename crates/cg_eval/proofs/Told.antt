@@ -59,7 +59,7 @@ tells-answer : (g : Game) (h : ℕ) (asked : Asked) (text : List ℕ) (a : Answe
     → a.handle ≡ Some h → ((t : Tree) → g ≡ can (meaning t) → IsDeep (asked_of asked t))
     → ((t : Tree) → g ≡ can (meaning t) → IsAnswerTo (asked_of asked t) (answer text)) → Tells g h asked a
 tells-answer g h asked text a e f deep all = record {
-  text = λ t is. let P : Piece → Type 0 = λ z. IsAnswerTo (asked_of asked t) z in subst P (sym e) (all t is);
+  text = λ t is. rw e (all t is);
   deep = deep;
   handle = f ∙ ap (λ (b : Bool). if b then None else Some h) (sym (ap (λ (z : Piece). z.refused) e));
 }
@@ -67,7 +67,7 @@ tells-answer g h asked text a e f deep all = record {
 pub told-value : (g : Game) (h : ℕ) (text : List ℕ) (a : Answered) → IsName g text → shown a ≡ answer text
     → a.handle ≡ Some h → Tells g h asking.Value a
 told-value g h text a n e f = tells-answer g h asking.Value text a e f (λ t is. tt)
-    (λ t is. let P : Game → Type 0 = λ z. IsName z text in (text, subst P is n, refl))
+    (λ t is. (text, rw (← is) n, refl))
 
 by_order : (b c : Bool) → winner_of (winner_by b c) ≡ winner b c
 by_order true true = refl
@@ -130,10 +130,8 @@ pub told-too_fine : (g : Game) (h : ℕ) (part : Part) (a : Answered) → NeedsM
     → Tells g h (asking.Picture part) a
 told-too_fine g h part a (n, deep) r = record {
   text = λ t k.
-      let N : Game → Type 0 = λ z. NeedsMore places z in
-      let P : Piece → Type 0 = λ z. IsAnswerTo (part_asked part t) z in
-      subst P (sym r.text) (part-refusal part t (subst N k n));
-  deep = λ t k. part-deep part t (λ _. let D : Game → Type 0 = λ z. 20 < depth_of z in subst D k deep);
+      rw r.text (part-refusal part t (rw (← k) n));
+  deep = λ t k. part-deep part t (λ _. rw (← k) deep);
   handle = r.handle ∙ ap (λ (b : Bool). if b then None else Some h) (sym (ap (λ (z : Piece). z.refused) r.text));
 }
 
@@ -167,7 +165,7 @@ handle-told : {R : Type 0} (s : State Meant R) (q : Question) (h : ℕ) (refused
     → handle ≡ (if refused then None else Some h) → StandsFor s h (can (meaning (first_of q))) → HandleIs s q refused handle
 handle-told s q h true handle e stands = e
 handle-told s q h false handle e stands =
-    let P : Option ℕ → Type 0 = λ z. HandleIs s q false z in subst P (sym e) stands
+    rw e stands
 
 module _ {R : Type 0} (s t u : State Meant (WorkRest R)) (asked : Asked) (e : Tree) (h : ℕ)
     (evaluated : Evaluates s t e (Ok h)) (spends : Spends 0 t u) where
@@ -177,19 +175,18 @@ module _ {R : Type 0} (s t u : State Meant (WorkRest R)) (asked : Asked) (e : Tr
       subst P (same-items s.rest.limit asked e) (makes_spends s t u (items s.rest.limit e) evaluated.1.1 spends)
 
   pub answers-told : (a : Answered) → Tells (game_at t h) h asked a → Answers s u (asked_of asked e) (Ok a)
-  answers-told a is =
-      let P : Tree → Type 0 = λ z. StandsFor u h (can (meaning z)) in (
-        sym (same-fault asked e) ∙ evaluated.0,
-        (
-          record {
-            text = is.text e (stands_game t h (can (meaning e)) evaluated.1.0);
-            value = handle-told u (asked_of asked e) h a.refused a.handle is.handle
-                (subst P (same-first asked e) (stands_later t u spends.known h (can (meaning e)) evaluated.1.0));
-            deep = is.deep e (stands_game t h (can (meaning e)) evaluated.1.0);
-          },
-          made_for,
-        ),
-      )
+  answers-told a is = (
+    sym (same-fault asked e) ∙ evaluated.0,
+    (
+      record {
+        text = is.text e (stands_game t h (can (meaning e)) evaluated.1.0);
+        value = handle-told u (asked_of asked e) h a.refused a.handle is.handle
+            (rw (← (same-first asked e)) (stands_later t u spends.known h (can (meaning e)) evaluated.1.0));
+        deep = is.deep e (stands_game t h (can (meaning e)) evaluated.1.0);
+      },
+      made_for,
+    ),
+  )
 
   pub answers-memory : Halts s u Memory (question_items s.rest.limit (asked_of asked e))
   answers-memory = stops_memory s u (question_items s.rest.limit (asked_of asked e))
@@ -268,28 +265,24 @@ module _ {R : Type 0} (s t u : State Meant (WorkRest R)) (asked : AskedOfTwo) (a
     (both : EvaluatesTwo s t a b (Ok hs)) (spends : Spends 0 t u) where
   both_spend : Makes s u (question_items s.rest.limit (asked_of_two asked a b))
   both_spend =
-      let M : List Item → Type 0 = λ k. Makes s u k in
-      subst M (same-items_of_two s.rest.limit asked a b)
+      rw (← (same-items_of_two s.rest.limit asked a b))
       (makes_spends s t u (items s.rest.limit a ++ items s.rest.limit b) both.1.1 spends)
 
   pub two-answered : (z : Answered) → TellsTwo hs.0 (IsToldOfTwo asked (game_at t hs.0) (game_at t hs.1)) z
       → Answers s u (asked_of_two asked a b) (Ok z)
-  two-answered z tells =
-      let P : Game → Type 0 = λ g. IsToldOfTwo asked g (game_at t hs.1) (shown z) in
-      let Q : Game → Type 0 = λ h. IsToldOfTwo asked (can (meaning a)) h (shown z) in
-      let F : Tree → Type 0 = λ e. StandsFor u hs.0 (can (meaning e)) in (
-        sym (same-fault_of_two asked a b) ∙ both.0,
-        (
-          record {
-            text = told-answer asked a b (shown z) (subst Q (stands_game t hs.1 (can (meaning b)) both.1.0.1)
-                (subst P (stands_game t hs.0 (can (meaning a)) both.1.0.0) tells.text));
-            value = handle-told u (asked_of_two asked a b) hs.0 z.refused z.handle tells.handle
-                (subst F (same-first_of_two asked a b) (stands_later t u spends.known hs.0 (can (meaning a)) both.1.0.0));
-            deep = no-deep asked a b;
-          },
-          both_spend,
-        ),
-      )
+  two-answered z tells = (
+    sym (same-fault_of_two asked a b) ∙ both.0,
+    (
+      record {
+        text = told-answer asked a b (shown z) (rw (← (stands_game t hs.1 (can (meaning b)) both.1.0.1))
+            (rw (← (stands_game t hs.0 (can (meaning a)) both.1.0.0)) tells.text));
+        value = handle-told u (asked_of_two asked a b) hs.0 z.refused z.handle tells.handle
+            (rw (← (same-first_of_two asked a b)) (stands_later t u spends.known hs.0 (can (meaning a)) both.1.0.0));
+        deep = no-deep asked a b;
+      },
+      both_spend,
+    ),
+  )
 
   pub two-memory : Halts s u Memory (question_items s.rest.limit (asked_of_two asked a b))
   two-memory = stops_memory s u (question_items s.rest.limit (asked_of_two asked a b))

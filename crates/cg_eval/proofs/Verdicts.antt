@@ -1,5 +1,5 @@
 -- The verdict on a list of items: all of them pass, or the first that doesn't is refused for one cause.
-use Rattle.std.proofs.Common.{◌≡◌, refl, ap, sym, ◌∙◌, subst, ℕ, ◌+◌, arith, ◌⊎◌, inl, inr, List, [], ◌∷◌, ◌++◌}
+use Rattle.std.proofs.Common.{◌≡◌, refl, ap, sym, ◌∙◌, ℕ, ◌+◌, arith, ◌⊎◌, inl, inr, List, [], ◌∷◌, ◌++◌}
 use Rattle.cg_dyadic.specs.Number.{is_in_range}
 use Rattle.cg_dyadic.proofs.Ranges.{in_range-from, in_range-to}
 use Rattle.cg_dyadic.proofs.Truth.{true_or_false}
@@ -116,30 +116,23 @@ one_place : (f e : ValueFault) (share before : ℕ) (xs : List Item) (x : Item) 
 one_place f e share before [] x rest [] y others a b split p q r s =
     let same : y ≡ x = cc in
     let after : a ≡ b = omega (arith, p.spent, q.spent) in
-    let P : Item → Type 0 = λ z. IsRefusal e z (b + item_cost z) share in
-    let Q : ℕ → Type 0 = λ n. IsRefusal e x (n + item_cost x) share in
-    (one_cause f e x (a + item_cost x) share r (subst Q (sym after) (subst P same s)), after)
+    (one_cause f e x (a + item_cost x) share r (rw after (rw (← same) s)), after)
 one_place f e share before [] x rest (y' ∷ ys) y others a b split p q r s =
     let same : x ≡ y' = cc in
     let after : a ≡ before = omega (arith, p.spent) in
-    let P : Item → Type 0 = λ z. Passes z (before + item_cost z) share in
-    let Q : ℕ → Type 0 = λ n. IsRefusal f x (n + item_cost x) share in
-    absurd (not_both f x (before + item_cost x) share (subst P (sym same) (passes-first share before b y' ys q))
-    (subst Q after r))
+    absurd (not_both f x (before + item_cost x) share (rw same (passes-first share before b y' ys q))
+    (rw (← after) r))
 one_place f e share before (x' ∷ xs) x rest [] y others a b split p q r s =
     let same : y ≡ x' = cc in
     let after : b ≡ before = omega (arith, q.spent) in
-    let P : Item → Type 0 = λ z. Passes z (before + item_cost z) share in
-    let Q : ℕ → Type 0 = λ n. IsRefusal e y (n + item_cost y) share in
-    absurd (not_both e y (before + item_cost y) share (subst P (sym same) (passes-first share before a x' xs p))
-    (subst Q after s))
+    absurd (not_both e y (before + item_cost y) share (rw same (passes-first share before a x' xs p))
+    (rw (← after) s))
 one_place f e share before (x' ∷ xs) x rest (y' ∷ ys) y others a b split p q r s =
     let same : y' ≡ x' = cc in
     let tails : xs ++ x ∷ rest ≡ ys ++ y ∷ others = cc in
-    let P : Item → Type 0 = λ z. AllPass share (before + total (z ∷ [])) ys b in
     one_place f e share (before + total (x' ∷ [])) xs x rest ys y others a b tails (all_pass-back share before a
     (x' ∷ []) xs p)
-    (subst P same (all_pass-back share before b (y' ∷ []) ys q)) r s
+    (rw (← same) (all_pass-back share before b (y' ∷ []) ys q)) r s
 
 pub verdict-stopped : (f e : ValueFault) (share before : ℕ) (items : List Item) (a b : ℕ)
     → IsStopped f share before items a

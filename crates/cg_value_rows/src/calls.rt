@@ -3,17 +3,16 @@
 //! `n:3/2^1` makes the item of the number 3/2, and `n:none` that of a number out of range; `g:0,1|2` makes the item
 //! of the canonical form of the game whose options are these handles, which are named by the order in which they
 //! were made; `c:2` charges the item of a form again; `+1` behind one of them is the cost of so much more.
-//! `tower:5` makes so many games, each {0|the last}. `w:` makes the game of a word, `+:0:1` the sum of two, `-:0` a
-//! negative, and `x:3:0` a multiple. What is printed for these is the first handle with the same id, or the handle,
-//! and what was spent so far. `name:2` gives the name of a game; `below:2` tells which of the games game 2 is at
-//! most; `num:3/2^1:2` whether the number is at most game 2, and whether game 2 is at most the number; `same:0:2`
-//! whether two are one game; `sides:2` the options of a game; `left:1:2` and `right:1:2` the walls of game 2 at the
-//! temperature 1; `agree:40` in how many of so many rounds both ways to canonical forms agree.
+//! `tower:5` makes so many games, each {0|the last}. `*:2` makes a nimber, `+:0:1` the sum of two, `-:0` a negative,
+//! and `x:3:0` a multiple. What is printed for these is the first handle with the same id, or the handle, and what was
+//! spent so far. `below:2` tells which of the games game 2 is at most; `num:3/2^1:2` whether the number is at most game
+//! 2, and whether game 2 is at most the number; `same:0:2` whether two are one game; `sides:2` the options of a game;
+//! `left:1:2` and `right:1:2` the walls of game 2 at the temperature 1; `agree:40` in how many of so many rounds both
+//! ways to canonical forms agree.
 use crate::desk::Desk;
 use crate::stop::Stop;
 use crate::terms::{halves, number, read, wide};
 use crate::trees::agreements;
-use crate::words::plain;
 use cg_cells::CellStore;
 use cg_nodes::{BoardForms, GameFacts};
 use cg_thermo::{Corners, ThermoFault, wall_at};
@@ -114,13 +113,16 @@ fn tower<B: BoardForms, S: CellStore<GameFacts<B>>>(
     Ok(last)
 }
 
-/// Makes the sum of two games, the negative of one, or a multiple of it.
+/// Makes a nimber, the sum of two games, the negative of one, or a multiple of it.
 fn added<B: BoardForms, S: CellStore<GameFacts<B>>>(
     alloc: Global,
     desk: &mut Desk<B, S>,
     name: &str,
     text: &str,
 ) -> Result<usize, Stop> {
+    if name == "*" {
+        return desk.nimber(alloc, read(text.parse::<u128>())?);
+    }
     if name == "-" {
         return desk.negative(alloc, index(text)?);
     }
@@ -143,8 +145,7 @@ fn made<B: BoardForms, S: CellStore<GameFacts<B>>>(
         "g" => Ok(Some(game_made(alloc, desk, text)?)),
         "c" => Ok(Some(charged(alloc, desk, text)?)),
         "tower" => Ok(Some(tower(alloc, desk, text)?)),
-        "w" => Ok(Some(plain(alloc, desk, text)?)),
-        "+" | "-" | "x" => Ok(Some(added(alloc, desk, name, text)?)),
+        "*" | "+" | "-" | "x" => Ok(Some(added(alloc, desk, name, text)?)),
         _ => Ok(None),
     }
 }
@@ -253,7 +254,6 @@ pub(crate) fn call<B: BoardForms, S: CellStore<GameFacts<B>>>(
             let rounds = read(text.parse::<u32>())?;
             Ok(agreements(alloc, desk, rounds)?.to_string(alloc)?)
         }
-        "name" => desk.name(alloc, index(text)?),
         "left" | "right" => wall(alloc, desk, name, text),
         _ => Err(Stop::Unread),
     }

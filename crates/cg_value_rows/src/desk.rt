@@ -1,9 +1,6 @@
 //! A desk: a work, with the games that a row has made so far, which are named by their indices.
 ghost use Rattle.std.specs.Prelude.{IfOk};
-ghost use Rattle.std.specs.Option.{ForSome};
 ghost use Rattle.cg_canon.specs.Works.{work_state};
-ghost use Rattle.cg_dyadic.specs.Number.{NumberLe};
-ghost use Rattle.cg_names.specs.Named.{zero_number};
 ghost use Rattle.cg_nodes.specs.Games.{AreGames, IsGame};
 
 use crate::stop::Stop;
@@ -12,7 +9,7 @@ use cg_canon::{Work, Written, canonical, equal, item_of, le, le_number, number_i
 use cg_cells::CellStore;
 use cg_dyadic::Dyadic;
 use cg_form::Form;
-use cg_names::{name, nimber, switch, tiny, ups};
+use cg_names::nimber;
 use cg_nodes::{BoardForms, GameFacts, Handle};
 use cg_sum::{multiple, negative, sum};
 use cg_thermo::{ThermoFault, Walls, thermograph};
@@ -47,13 +44,6 @@ impl<'a, B: BoardForms, S: CellStore<GameFacts<B>>> Model for Desk<'a, B, S> {
     ghost view = { λ d. d.work };
 
     ghost invariant = { λ d. AreGames (work_state S.state d.work) d.games.items };
-}
-
-/// The number `num/den`, which is at least 0, or none where it is out of range.
-fn literal(num: u128, den: u128) -> Option<Dyadic>
-    ensures { ForSome result (λ x. NumberLe zero_number x) }
-{
-    Dyadic::from_digits(false, num, den)
 }
 
 #[tactic(auto, using(crate::proofs::Games::kept, crate::proofs::Games::spent, crate::proofs::Games::one_more))]
@@ -185,35 +175,9 @@ impl<'a, B: BoardForms, S: CellStore<GameFacts<B>>> Desk<'a, B, S> {
         self.keep(handle)
     }
 
-    /// Makes the switch of a number.
-    pub(crate) fn switch(&mut self, alloc: Global, num: u128, den: u128) -> Result<usize, Stop> {
-        let x = literal(num, den);
-        let handle = switch(alloc, &mut self.work, x)?;
-        self.keep(handle)
-    }
-
-    /// Makes Tiny or Miny of a number.
-    pub(crate) fn tiny(
-        &mut self,
-        alloc: Global,
-        miny: bool,
-        num: u128,
-        den: u128,
-    ) -> Result<usize, Stop> {
-        let x = literal(num, den);
-        let handle = tiny(alloc, &mut self.work, miny, x)?;
-        self.keep(handle)
-    }
-
     /// Makes a nimber.
     pub(crate) fn nimber(&mut self, alloc: Global, count: u128) -> Result<usize, Stop> {
         let handle = nimber(alloc, &mut self.work, count)?;
-        self.keep(handle)
-    }
-
-    /// Makes so many ups, or downs.
-    pub(crate) fn ups(&mut self, alloc: Global, down: bool, count: u128) -> Result<usize, Stop> {
-        let handle = ups(alloc, &mut self.work, down, count)?;
         self.keep(handle)
     }
 
@@ -253,12 +217,6 @@ impl<'a, B: BoardForms, S: CellStore<GameFacts<B>>> Desk<'a, B, S> {
                 rights: self.places(alloc, rights.as_slice())?,
             }),
         }
-    }
-
-    /// The name of a game.
-    pub(crate) fn name(&mut self, alloc: Global, a: usize) -> Result<String, Stop> {
-        let handle = self.game(a)?;
-        Ok(name(alloc, &mut self.work, handle)?)
     }
 
     /// The tree of a game, which isn't deep.

@@ -1,5 +1,5 @@
-//! Worked rows of games on handles: canonical forms and their costs, the order, sums and names, and walls. Each
-//! line of the input is written back with its answer.
+//! Worked rows of games on handles: canonical forms, what they cost and what is spent where one is refused, the order,
+//! and walls. Each line of the input is written back with its answer.
 //!
 //! A row has a share, a limit on positions, and words, one for each call on the work of the row; the answers of all of
 //! them are printed, but of those with a point in front.
@@ -14,7 +14,6 @@ mod rows;
 mod stop;
 mod terms;
 mod trees;
-mod words;
 
 fn main(rt: HostRuntime) -> anyhow::Result<()> {
     for line in rt.lines(rt.alloc()) {
