@@ -10,8 +10,8 @@ use Rattle.cg_form.specs.Game.{Game, number}
 use Rattle.cg_form.specs.Order.{le}
 use Rattle.cg_form.proofs.Preorder.{le_trans}
 use Rattle.cg_form.proofs.Sides.{number_side-less}
-use Rattle.cg_arena.specs.declared.profile.Profile.{Profile}
-use Rattle.cg_arena.specs.Profiles.{HasCuts}
+use Rattle.cg_arena.specs.declared.summary.Summary.{Summary}
+use Rattle.cg_arena.specs.Summaries.{HasCuts}
 use Rattle.cg_arena.specs.Decided.{GoesPast, Meet}
 
 -- ---- two cuts
@@ -88,16 +88,16 @@ meet_between high low c at shut e f h =
 
 -- ---- two games
 
-pub above_first : (a b : Profile) (g h : Game) → HasCuts g a → HasCuts h b → GoesPast true a.low b.low → le g h ≡ false
+pub above_first : (a b : Summary) (g h : Game) → HasCuts g a → HasCuts h b → GoesPast true a.low b.low → le g h ≡ false
 above_first a b g h p q w =
     false-from (le g h) (λ l. differ (le (number w.x) h)
     (le_trans (number w.x) g h (p.low.tells w.x tt ∙ w.inside) l) (q.low.tells w.x tt ∙ w.outside))
 
-pub above_second : (a b : Profile) (g h : Game) → HasCuts g a → HasCuts h b → GoesPast false b.high a.high → le g h ≡ false
+pub above_second : (a b : Summary) (g h : Game) → HasCuts g a → HasCuts h b → GoesPast false b.high a.high → le g h ≡ false
 above_second a b g h p q w =
     false-from (le g h) (λ l. differ (le g (number w.x))
     (le_trans g h (number w.x) l (q.high.tells w.x tt ∙ w.inside)) (p.high.tells w.x tt ∙ w.outside))
 
-pub between : (a b : Profile) (g h : Game) → HasCuts g a → HasCuts h b → Meet a.high b.low → true ≡ le g h
+pub between : (a b : Summary) (g h : Game) → HasCuts g a → HasCuts h b → Meet a.high b.low → true ≡ le g h
 between a b g h p q w =
     sym (le_trans g (number w.x) h (p.high.tells w.x tt ∙ w.above) (q.low.tells w.x tt ∙ w.below))

@@ -97,11 +97,11 @@ key_small x false r = let u = units-in_range x r in omega (arith, ints)
 
 pub low_small : (a : Keys) (g : Game) → HasKeys g a → unsigned_abs a.low < 2 ^ 126
 low_small a g p =
-    rw p.keys.low (key_small p.profile.low.at p.profile.low.closed p.keys.low_in_range)
+    rw p.keys.low (key_small p.summary.low.at p.summary.low.closed p.keys.low_in_range)
 
 pub high_small : (a : Keys) (g : Game) → HasKeys g a → unsigned_abs a.high < 2 ^ 126
 high_small a g p =
-    rw p.keys.high (key_small p.profile.high.at (not p.profile.high.closed) p.keys.high_in_range)
+    rw p.keys.high (key_small p.summary.high.at (not p.summary.high.closed) p.keys.high_in_range)
 
 compared_as_words : (m n : ℤ) → unsigned_abs m < 2 ^ 126 → unsigned_abs n < 2 ^ 126 → lt_z m n ≡ lt_z (as_word m) (as_word n)
 compared_as_words m n e f = ap (λ z. lt_z z n) (sym (wide_word m e)) ∙ ap (lt_z (as_word m)) (sym (wide_word n f))
@@ -129,14 +129,14 @@ at_keys m n k l e f h =
 
 pub below_low : (a b : Keys) (g h : Game) → HasKeys g a → HasKeys h b → b.low <ℤ a.low → le g h ≡ false
 below_low a b g h p q l =
-    above_first p.profile q.profile g h p.cuts q.cuts
-    (past_low p.profile.low q.profile.low p.profile.low.closed refl p.keys.low_in_range q.keys.low_in_range
+    above_first p.summary q.summary g h p.cuts q.cuts
+    (past_low p.summary.low q.summary.low p.summary.low.closed refl p.keys.low_in_range q.keys.low_in_range
     (at_keys b.low a.low _ _ q.keys.low p.keys.low l))
 
 pub below_high : (a b : Keys) (g h : Game) → HasKeys g a → HasKeys h b → b.high <ℤ a.high → le g h ≡ false
 below_high a b g h p q l =
-    above_second p.profile q.profile g h p.cuts q.cuts
-    (past_high q.profile.high p.profile.high q.profile.high.closed refl q.keys.high_in_range p.keys.high_in_range
+    above_second p.summary q.summary g h p.cuts q.cuts
+    (past_high q.summary.high p.summary.high q.summary.high.closed refl q.keys.high_in_range p.keys.high_in_range
     (at_keys b.high a.high _ _ q.keys.high p.keys.high l))
 
 pub decided_low : (a b : Keys) (g h : Game) → HasKeys g a → HasKeys h b → IsLess b.low a.low → false ≡ le g h
@@ -147,8 +147,8 @@ decided_high a b g h p q l = sym (below_high a b g h p q (is_less b.high a.high 
 
 pub decided_between : (a b : Keys) (g h : Game) → HasKeys g a → HasKeys h b → IsLess a.high b.low → true ≡ le g h
 decided_between a b g h p q l =
-    between p.profile q.profile g h p.cuts q.cuts
-    (meet p.profile.high q.profile.low p.profile.high.closed q.profile.low.closed refl refl p.keys.high_in_range q.keys.low_in_range
+    between p.summary q.summary g h p.cuts q.cuts
+    (meet p.summary.high q.summary.low p.summary.high.closed q.summary.low.closed refl refl p.keys.high_in_range q.keys.low_in_range
     (at_keys a.high b.low _ _ p.keys.high q.keys.low (is_less a.high b.low (high_small a g p) (low_small b h q) l)))
 
 -- ---- a game that reaches no further than another
@@ -173,14 +173,14 @@ no_further s a b g h p q k = λ x l.
 
 no_further_low : (a b : Keys) (g h : Game) → HasKeys g a → HasKeys h b → a.low ≤ℤ b.low → NoFurther true g h
 no_further_low a b g h p q l =
-    no_further true p.profile.low q.profile.low g h p.cuts.low q.cuts.low
-    (covers_low q.profile.low.at p.profile.low.at q.profile.low.closed p.profile.low.closed q.keys.low_in_range p.keys.low_in_range
+    no_further true p.summary.low q.summary.low g h p.cuts.low q.cuts.low
+    (covers_low q.summary.low.at p.summary.low.at q.summary.low.closed p.summary.low.closed q.keys.low_in_range p.keys.low_in_range
     (rw (← p.keys.low) (rw (← q.keys.low) l)))
 
 no_further_high : (a b : Keys) (g h : Game) → HasKeys g a → HasKeys h b → b.high ≤ℤ a.high → NoFurther false g h
 no_further_high a b g h p q l =
-    no_further false p.profile.high q.profile.high g h p.cuts.high q.cuts.high
-    (covers_high q.profile.high.at p.profile.high.at q.profile.high.closed p.profile.high.closed q.keys.high_in_range p.keys.high_in_range
+    no_further false p.summary.high q.summary.high g h p.cuts.high q.cuts.high
+    (covers_high q.summary.high.at p.summary.high.at q.summary.high.closed p.summary.high.closed q.keys.high_in_range p.keys.high_in_range
     (rw (← q.keys.high) (rw (← p.keys.high) l)))
 
 pub less_low : (s : Bool) (a b : Keys) (g h : Game) → s ≡ true → HasKeys g a → HasKeys h b → IsLess a.low b.low

@@ -15,4 +15,4 @@ pub mod Halving
 pub mod ListOrder
 pub mod Reaching
 pub mod Reducing
-pub mod Outlines
+pub mod LeaderSteps

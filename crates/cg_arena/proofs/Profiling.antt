@@ -1,4 +1,4 @@
--- Profiles from those of the options.
+-- Summaries from those of the options.
 use Rattle.std.proofs.Common.{◌≡◌, refl, ℕ, ◌+◌, ◌<◌, ◌≤◌, ◌^◌, arith, ap, ◌∙◌, List, [], ◌∷◌, ◌++◌, length, Bool, true, false, not, ◌&&◌, max, rules, if◌then◌else◌}
 use Rattle.std.specs.Prelude.{Option, Some, IsSome}
 use Rattle.cg_dyadic.specs.declared.cut.Cut.{Cut}
@@ -19,14 +19,14 @@ use Rattle.cg_form.proofs.Preorder.{equal_refl}
 use Rattle.cg_form.proofs.Sides.{side_equal, side_trans}
 use Rattle.cg_form.proofs.Simplicity.{none_fits}
 use Rattle.cg_arena.specs.Costs.{cost_of}
-use Rattle.cg_arena.specs.declared.profile.Profile.{Profile}
-use Rattle.cg_arena.specs.Profiles.{HasCuts, IsProfile, chosen_cut}
+use Rattle.cg_arena.specs.declared.summary.Summary.{Summary}
+use Rattle.cg_arena.specs.Summaries.{HasCuts, IsSummary, chosen_cut}
 
 -- ---- a number
 
-pub number_profile : (x : Number) (c d : Cut) (n : ℕ) → c.at ≡ x → c.closed ≡ true → d.at ≡ x → d.closed ≡ true
-    → n ≡ cost_of (number x) → InRange x → IsProfile (number x) (record { low = c; high = d; depth = 0; cost = n })
-number_profile x c d n at shut at' shut' cells range = record {
+pub number_summary : (x : Number) (c d : Cut) (n : ℕ) → c.at ≡ x → c.closed ≡ true → d.at ≡ x → d.closed ≡ true
+    → n ≡ cost_of (number x) → InRange x → IsSummary (number x) (record { low = c; high = d; depth = 0; cost = n })
+number_summary x c d n at shut at' shut' cells range = record {
   cuts = record {
     low = cut-number AnyNumber true c x (number x) at shut (equal_refl (number x));
     high = cut-number AnyNumber false d x (number x) at' shut' (equal_refl (number x));
@@ -59,9 +59,9 @@ pub deepest-last : (gs : List Game) (g : Game) → deepest (gs ++ g ∷ []) ≡ 
 deepest-last [] g = omega arith
 deepest-last (h ∷ gs) g = omega (arith, deepest-last gs g)
 
-pub profile_cut : (s : Bool) (g : Game) (p : Profile) → IsProfile g p → CutIs AnyNumber s (chosen_cut s p.low p.high) g
-profile_cut true g p h = h.cuts.low
-profile_cut false g p h = h.cuts.high
+pub summary_cut : (s : Bool) (g : Game) (p : Summary) → IsSummary g p → CutIs AnyNumber s (chosen_cut s p.low p.high) g
+summary_cut true g p h = h.cuts.low
+summary_cut false g p h = h.cuts.high
 
 -- ---- a game that equals no number
 
@@ -100,9 +100,9 @@ cuts_between ls rs o q low high c d e f t u never l r =
     )
 
 -- from its cuts, and the depths and lengths of its lists
-pub profile_from_cuts : (ls rs : List Game) (p : Profile) → CutIs AnyNumber true p.low (node ls rs) → CutIs AnyNumber false p.high (node ls rs)
-    → p.depth ≡ max (deepest ls) (deepest rs) + 1 → p.cost ≡ 1 + length ls + length rs → p.cost < 2 ^ 63 → IsProfile (node ls rs) p
-profile_from_cuts ls rs p low high deep cost small =
+pub summary_from_cuts : (ls rs : List Game) (p : Summary) → CutIs AnyNumber true p.low (node ls rs) → CutIs AnyNumber false p.high (node ls rs)
+    → p.depth ≡ max (deepest ls) (deepest rs) + 1 → p.cost ≡ 1 + length ls + length rs → p.cost < 2 ^ 63 → IsSummary (node ls rs) p
+summary_from_cuts ls rs p low high deep cost small =
     let nl : length (lefts (node ls rs)) ≡ length ls = ap length (lefts-node ls rs) in
     let nr : length (rights (node ls rs)) ≡ length rs = ap length (rights-node ls rs) in
     record {
@@ -124,5 +124,5 @@ equal_cut s g h c e k = record {
       ∙ k.tells x y;
 }
 
-pub equal_cuts : (g h : Game) (p : Profile) → Equal h g → HasCuts g p → HasCuts h p
+pub equal_cuts : (g h : Game) (p : Summary) → Equal h g → HasCuts g p → HasCuts h p
 equal_cuts g h p e k = record { low = equal_cut true g h p.low e k.low; high = equal_cut false g h p.high e k.high }

@@ -11,12 +11,12 @@ use Rattle.cg_form.proofs.EqualGames.{le-equal}
 use Rattle.cg_form.proofs.Exists.{node_settled}
 use Rattle.cg_form.proofs.Preorder.{equal_refl, equal_trans, le-cofinal, le_refl}
 use Rattle.cg_form.proofs.Sides.{side_refl}
-use Rattle.cg_arena.specs.declared.profile.Profile.{Profile}
+use Rattle.cg_arena.specs.declared.summary.Summary.{Summary}
 use Rattle.cg_arena.specs.declared.verdicts.Verdicts.{Verdicts}
 use Rattle.cg_arena.specs.declared.unreduced.Unreduced.{Unreduced}
 use Rattle.cg_arena.specs.Keys.{AreKeys}
 use Rattle.cg_arena.specs.Arena.{AreIndexes, games_of}
-use Rattle.cg_arena.specs.Profiles.{HasCuts}
+use Rattle.cg_arena.specs.Summaries.{HasCuts}
 use Rattle.cg_arena.specs.Undominated.{Undominated}
 use Rattle.cg_arena.specs.Verdict.{verdict}
 use Rattle.cg_arena.specs.UnreducedGames.{AreVerdicts, UnreducedHolds, unreduced_game}
@@ -40,7 +40,7 @@ undominated_equal ls rs us vs l r =
 no_number_equal : (g h : Game) → Equal g h → NoNumber h → NoNumber g
 no_number_equal g h e n x f = n x (equal_trans (number x) g h f e)
 
-cuts_equal : (g h : Game) (p : Profile) → Equal g h → HasCuts h p → HasCuts g p
+cuts_equal : (g h : Game) (p : Summary) → Equal g h → HasCuts h p → HasCuts g p
 cuts_equal g h p e k = record {
   low = record { tells = λ x a. le-equal (number x) g (number x) h (equal_refl (number x)) e ∙ k.low.tells x a };
   high = record { tells = λ x a. le-equal g (number x) h (number x) e (equal_refl (number x)) ∙ k.high.tells x a };
@@ -58,8 +58,8 @@ pub record OfUndominated (gs : List Game) (ls rs : List ℕ) (w : Unreduced) : T
 
 pub of_undominated : (gs : List Game) (ls rs us vs : List ℕ) (w : Unreduced) → w.lefts.now ≡ us → w.rights.now ≡ vs → AreIndexes gs us
     → AreIndexes gs vs → Undominated true (games_of gs ls) (games_of gs us) → Undominated false (games_of gs rs) (games_of gs vs)
-    → NoNumber (node (games_of gs ls) (games_of gs rs)) → HasCuts (node (games_of gs ls) (games_of gs rs)) w.profile
-    → AreKeys w.profile w.keys → OfUndominated gs ls rs w
+    → NoNumber (node (games_of gs ls) (games_of gs rs)) → HasCuts (node (games_of gs ls) (games_of gs rs)) w.summary
+    → AreKeys w.summary w.keys → OfUndominated gs ls rs w
 of_undominated gs ls rs us vs w e f a b l r never cuts keys =
     let P : List ℕ → Type 0 = λ z. AreIndexes gs z in
     let U : List ℕ → Type 0 = λ z. Undominated true (games_of gs ls) (games_of gs z) in
@@ -73,7 +73,7 @@ of_undominated gs ls rs us vs w e f a b l r never cuts keys =
         lefts = subst P (sym e) a;
         rights = subst P (sym f) b;
         no_number = no_number_equal (unreduced_game gs w) h equal never;
-        cuts = cuts_equal (unreduced_game gs w) h w.profile equal cuts;
+        cuts = cuts_equal (unreduced_game gs w) h w.summary equal cuts;
         keys = keys;
       };
       lefts = undominated_again true (games_of gs ls) (games_of gs w.lefts.now) left;

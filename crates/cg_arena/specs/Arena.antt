@@ -7,9 +7,9 @@ use Rattle.cg_form.specs.Game.{node, number}
 use Rattle.cg_arena.specs.declared.arena.Entry.{Entry}
 use Rattle.cg_arena.specs.declared.arena.Read.{Read}
 use Rattle.cg_arena.specs.declared.arena.Read.TheVariants.{Number, Game}
-use Rattle.cg_arena.specs.declared.profile.Profile.{Profile}
+use Rattle.cg_arena.specs.declared.summary.Summary.{Summary}
 use Rattle.cg_arena.specs.Keys.{AreKeys}
-use Rattle.cg_arena.specs.Profiles.{IsProfile}
+use Rattle.cg_arena.specs.Summaries.{IsSummary}
 
 -- the game at the index
 abbrev pub game_of : List tree.Game → ℕ → tree.Game
@@ -41,33 +41,33 @@ left_indexes opts p = slice_range opts p.lefts p.rights
 abbrev pub right_indexes : List ℕ → Entry → List ℕ
 right_indexes opts p = slice_range opts p.rights p.end
 
--- the game that an entry says beside its profile, where those of the entries before it are known
-abbrev pub said : List ℕ → List tree.Game → Entry → Profile → tree.Game
-said opts gs p profile =
-    cond p.is_number (number profile.low.at) (node (games_of gs (left_indexes opts p)) (games_of gs (right_indexes opts p)))
+-- the game that an entry says beside its summary, where those of the entries before it are known
+abbrev pub said : List ℕ → List tree.Game → Entry → Summary → tree.Game
+said opts gs p summary =
+    cond p.is_number (number summary.low.at) (node (games_of gs (left_indexes opts p)) (games_of gs (right_indexes opts p)))
 
--- the games, and those that the entries say, each beside its profile, one after the other
-abbrev pub said_by : List ℕ → List tree.Game → List (Entry × Profile) → List tree.Game
+-- the games, and those that the entries say, each beside its summary, one after the other
+abbrev pub said_by : List ℕ → List tree.Game → List (Entry × Summary) → List tree.Game
 said_by opts gs [] = gs
-said_by opts gs ((p, profile) ∷ ps) = said_by opts (gs ++ (said opts gs p profile ∷ [])) ps
+said_by opts gs ((p, summary) ∷ ps) = said_by opts (gs ++ (said opts gs p summary ∷ [])) ps
 
--- an entry, beside its profile, of a canonical game, all of whose options have indexes among these
-pub record IsWritten (opts : List ℕ) (gs : List tree.Game) (p : Entry) (profile : Profile) : Type 0 where
+-- an entry, beside its summary, of a canonical game, all of whose options have indexes among these
+pub record IsWritten (opts : List ℕ) (gs : List tree.Game) (p : Entry) (summary : Summary) : Type 0 where
   pub lefts : AreIndexes gs (left_indexes opts p)
   pub rights : AreIndexes gs (right_indexes opts p)
   pub first : p.lefts ≤ p.rights
   pub second : p.rights ≤ p.end
   pub end : p.end ≤ length opts
-  pub canonical : Canonical (said opts gs p profile)
-  pub is_profile : IsProfile (said opts gs p profile) profile
-  pub keys : AreKeys profile p.keys
+  pub canonical : Canonical (said opts gs p summary)
+  pub is_summary : IsSummary (said opts gs p summary) summary
+  pub keys : AreKeys summary p.keys
 
-abbrev pub AreWritten : List ℕ → List tree.Game → List (Entry × Profile) → Type 0
+abbrev pub AreWritten : List ℕ → List tree.Game → List (Entry × Summary) → Type 0
 AreWritten opts gs [] = length gs ≤ 2 ^ 32
-AreWritten opts gs ((p, profile) ∷ ps) = IsWritten opts gs p profile × AreWritten opts (gs ++ (said opts gs p profile ∷ [])) ps
+AreWritten opts gs ((p, summary) ∷ ps) = IsWritten opts gs p summary × AreWritten opts (gs ++ (said opts gs p summary ∷ [])) ps
 
--- the entries and their profiles, in two lists
-pub record IsArena (opts : List ℕ) (ps : List Entry) (profiles : List Profile) : Type 0 where
-  -- each entry has one profile
-  pub one_each : length profiles ≡ length ps
-  pub written : AreWritten opts [] (zip ps profiles)
+-- the entries and their summaries, in two lists
+pub record IsArena (opts : List ℕ) (ps : List Entry) (summaries : List Summary) : Type 0 where
+  -- each entry has one summary
+  pub one_each : length summaries ≡ length ps
+  pub written : AreWritten opts [] (zip ps summaries)

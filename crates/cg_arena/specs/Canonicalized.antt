@@ -7,14 +7,14 @@ use Rattle.cg_arena.specs.declared.canonicalizing.NewForm.{NewForm}
 use Rattle.cg_arena.specs.declared.canonicalizing.Canonicalized.{Canonicalized}
 use Rattle.cg_arena.specs.declared.canonicalizing.Canonicalized.TheVariants.{Game, Number, Outside}
 use Rattle.cg_arena.specs.Arena.{AreIndexes, games_of}
-use Rattle.cg_arena.specs.Profiles.{IsProfile}
+use Rattle.cg_arena.specs.Summaries.{IsSummary}
 
--- the form has these options and this profile
+-- the form has these options and this summary
 pub record IsNewForm (gs : List tree.Game) (form : tree.Game) (new : NewForm) : Type 0 where
   pub lefts : AreIndexes gs new.form.lefts.items
   pub rights : AreIndexes gs new.form.rights.items
   pub is : form ≡ node (games_of gs new.form.lefts.items) (games_of gs new.form.rights.items)
-  pub profile : IsProfile form new.profile
+  pub summary : IsSummary form new.summary
 
 pub record IsOutside (form : tree.Game) : Type 0 where
   pub x : Value

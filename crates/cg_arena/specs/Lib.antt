@@ -1,6 +1,6 @@
 -- what contracts cite
 pub mod Costs
-pub mod Profiles
+pub mod Summaries
 pub mod Arena
 pub mod OrderMemos
 pub mod Decided

@@ -8,20 +8,20 @@ use Rattle.cg_arena.specs.declared.verdicts.Verdicts.{Verdicts}
 use Rattle.cg_arena.specs.declared.unreduced.Unreduced.{Unreduced}
 use Rattle.cg_arena.specs.Keys.{AreKeys}
 use Rattle.cg_arena.specs.Arena.{AreIndexes, IsIndex, game_of, games_of}
-use Rattle.cg_arena.specs.Profiles.{HasCuts}
+use Rattle.cg_arena.specs.Summaries.{HasCuts}
 use Rattle.cg_arena.specs.OrderMemos.{AreRight}
 use Rattle.cg_arena.specs.Verdict.{verdict}
 
 abbrev pub unreduced_game : List Game → Unreduced → Game
 unreduced_game gs w = node (games_of gs w.lefts.now) (games_of gs w.rights.now)
 
--- the unreduced game equals no number, and the cuts of its profile are its own, with their keys
+-- the unreduced game equals no number, and the cuts of its summary are its own, with their keys
 pub record UnreducedHolds (gs : List Game) (w : Unreduced) : Type 0 where
   pub lefts : AreIndexes gs w.lefts.now
   pub rights : AreIndexes gs w.rights.now
   pub no_number : NoNumber (unreduced_game gs w)
-  pub cuts : HasCuts (unreduced_game gs w) w.profile
-  pub keys : AreKeys w.profile w.keys
+  pub cuts : HasCuts (unreduced_game gs w) w.summary
+  pub keys : AreKeys w.summary w.keys
 
 -- each verdict is right
 pub record AreVerdicts (gs : List Game) (w : Unreduced) (v : Verdicts) : Type 0 where

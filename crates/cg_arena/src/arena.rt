@@ -5,10 +5,10 @@ ghost use Rattle.cg_form.specs.Canonical.{Canonical};
 ghost use Rattle.cg_form.specs.Game.{node, number};
 ghost use Rattle.cg_arena.specs.Keys.{HasKeys};
 ghost use Rattle.cg_arena.specs.Arena.{AreIndexes, IsIndex, IsRead, game_of, games_of};
-ghost use Rattle.cg_arena.specs.Profiles.{IsProfile};
+ghost use Rattle.cg_arena.specs.Summaries.{IsSummary};
 
 use crate::keys::Keys;
-use crate::profile::Profile;
+use crate::summary::Summary;
 use cg_dyadic::Dyadic;
 use std::alloc::{AllocError, Global};
 use std::marker::Model;
@@ -16,7 +16,7 @@ use std::marker::Model;
 /// What an entry says of its game.
 #[derive(Clone, Copy)]
 pub(crate) struct Entry {
-    /// Where the cuts of its profile lie.
+    /// Where the cuts of its summary lie.
     keys: Keys,
     /// Where its Left options begin among the options of all games.
     lefts: usize,
@@ -24,7 +24,7 @@ pub(crate) struct Entry {
     rights: usize,
     /// Where its Right options end.
     end: usize,
-    /// Whether it is a number, which is then where the cuts of its profile are.
+    /// Whether it is a number, which is then where the cuts of its summary are.
     is_number: bool,
     /// How many positions it has, each counted once for each way to it, or some number beyond `LIGHT`.
     weight: u8,
@@ -43,7 +43,7 @@ pub enum Read<'a> {
 pub struct Arena {
     entries: Vec<Entry>,
     /// What is known of the game at each index besides its options. It stands apart, since a comparison reads the keys alone.
-    profiles: Vec<Profile>,
+    summaries: Vec<Summary>,
     options: Vec<u32>,
 }
 
@@ -61,9 +61,9 @@ impl Model for Arena {
 
     ghost coded = { coded_list game_code };
 
-    ghost view = { λ b. said_by b.options.items [] (zip b.entries.items b.profiles.items) };
+    ghost view = { λ b. said_by b.options.items [] (zip b.entries.items b.summaries.items) };
 
-    ghost invariant = { λ b. IsArena b.options.items b.entries.items b.profiles.items };
+    ghost invariant = { λ b. IsArena b.options.items b.entries.items b.summaries.items };
 }
 
 /// The part of the list from one place up to another.
@@ -90,21 +90,21 @@ fn weight_with(entries: &[Entry], options: &[u32], weight: u8) -> u8 {
     sum
 }
 
-/// Adds the entry and its profile, each behind the others, or neither.
+/// Adds the entry and its summary, each behind the others, or neither.
 fn add(
     entries: &mut Vec<Entry>,
-    profiles: &mut Vec<Profile>,
+    summaries: &mut Vec<Summary>,
     entry: Entry,
-    profile: &Profile,
+    summary: &Summary,
 ) -> Result<(), AllocError>
     ensures entries { entries.new.items ≡ (if is_ok result then entries.old.items ++ (entry ∷ []) else
         entries.old.items) }
-    ensures profiles { profiles.new.items
-        ≡ (if is_ok result then profiles.old.items ++ (profile.now ∷ []) else profiles.old.items) }
+    ensures summaries { summaries.new.items
+        ≡ (if is_ok result then summaries.old.items ++ (summary.now ∷ []) else summaries.old.items) }
 {
-    profiles.push(*profile)?;
+    summaries.push(*summary)?;
     if entries.push(entry).is_err() {
-        profiles.pop();
+        summaries.pop();
         return Err(AllocError);
     }
     Ok(())
@@ -117,7 +117,7 @@ impl Arena {
     {
         Arena {
             entries: Vec::new(alloc),
-            profiles: Vec::new(alloc),
+            summaries: Vec::new(alloc),
             options: Vec::new(alloc),
         }
     }
@@ -131,32 +131,32 @@ impl Arena {
     {
         let count = self.entries.len();
         let end = self.options.len();
-        let profile = Profile::number(x);
+        let summary = Summary::number(x);
         let entry = Entry {
-            keys: Keys::of(&profile),
+            keys: Keys::of(&summary),
             lefts: end,
             rights: end,
             end,
             is_number: true,
             weight: 1,
         };
-        add(&mut self.entries, &mut self.profiles, entry, &profile)?;
+        add(&mut self.entries, &mut self.summaries, entry, &summary)?;
         Ok(count as u32)
     }
 
-    /// Adds the game with these options and this profile, at the next index. The only error is want of memory.
+    /// Adds the game with these options and this summary, at the next index. The only error is want of memory.
     #[inline(always)]
     pub fn add_game(
         &mut self,
         lefts: &[u32],
         rights: &[u32],
-        profile: &Profile,
+        summary: &Summary,
     ) -> Result<u32, AllocError>
         requires few { length self.old < 2 ^ 32 }
         requires lefts { AreIndexes self.old lefts.now }
         requires rights { AreIndexes self.old rights.now }
         requires canonical { Canonical (node (games_of self.old lefts.now) (games_of self.old rights.now)) }
-        requires profile { IsProfile (node (games_of self.old lefts.now) (games_of self.old rights.now)) profile.now }
+        requires summary { IsSummary (node (games_of self.old lefts.now) (games_of self.old rights.now)) summary.now }
         ensures index { IfOk result (λ p. p ≡ length self.old) }
         ensures games { IfOk result (λ _. self.new
             ≡ self.old ++ (node (games_of self.old lefts.now) (games_of self.old rights.now) ∷ [])) }
@@ -170,14 +170,14 @@ impl Arena {
         self.options.extend_from_slice(lefts)?;
         self.options.extend_from_slice(rights)?;
         let entry = Entry {
-            keys: Keys::of(profile),
+            keys: Keys::of(summary),
             lefts: first,
             rights: middle,
             end,
             is_number: false,
             weight,
         };
-        add(&mut self.entries, &mut self.profiles, entry, profile)?;
+        add(&mut self.entries, &mut self.summaries, entry, summary)?;
         Ok(count as u32)
     }
 
@@ -205,7 +205,7 @@ impl Arena {
     {
         let found = &self.entries[index as usize];
         if found.is_number {
-            return Read::Number(self.profiles[index as usize].low.at);
+            return Read::Number(self.summaries[index as usize].low.at);
         }
         let lefts = part(&self.options, found.lefts, found.rights);
         let rights = part(&self.options, found.rights, found.end);
@@ -213,12 +213,12 @@ impl Arena {
     }
 
     /// What is known of the game at the index besides its options.
-    pub fn profile(&self, index: u32) -> &Profile
+    pub fn summary(&self, index: u32) -> &Summary
         requires { IsIndex self.now index }
-        ensures profile { IsProfile (game_of self.now index) result.now }
+        ensures summary { IsSummary (game_of self.now index) result.now }
         ensures small { result.now.depth ≤ 2 ^ 32 }
     {
-        &self.profiles[index as usize]
+        &self.summaries[index as usize]
     }
 
     /// Where the cuts of the game at the index lie.

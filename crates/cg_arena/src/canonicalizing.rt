@@ -4,29 +4,29 @@ ghost use Rattle.cg_form.specs.Canonical.{IsCanonicalForm};
 ghost use Rattle.cg_form.specs.Game.{Game, node};
 ghost use Rattle.cg_form.specs.Simple.{NoNumber};
 ghost use Rattle.cg_arena.specs.Arena.{AreIndexes, games_of};
-ghost use Rattle.cg_arena.specs.Profiles.{HasCuts, IsProfile};
+ghost use Rattle.cg_arena.specs.Summaries.{HasCuts, IsSummary};
 ghost use Rattle.cg_arena.specs.OrderMemos.{AreRight};
 ghost use Rattle.cg_arena.specs.Canonicalized.{IsNewForm, IsCanonicalized};
 ghost use Rattle.cg_arena.specs.Terms.{ApartByTerm};
 
 use crate::arena::Arena;
 use crate::order_memo::OrderMemo;
-use crate::outlining::{cut_of, profile_between, profile_with};
-use crate::profile::Profile;
 use crate::reduce::{Form, put_reduced};
+use crate::summarizing::{cut_of, summary_between, summary_with};
+use crate::summary::Summary;
 use crate::terms::FirstTerm;
 use cg_dyadic::Dyadic;
 use cg_dyadic::cut::Found;
 use cg_dyadic::search::simplest_in;
 use std::alloc::AllocError;
 
-/// A canonical form that equals no number, with its profile.
+/// A canonical form that equals no number, with its summary.
 #[derive(Drop)]
 pub struct NewForm {
     /// Its options.
     pub form: Form,
     /// What is known of it besides.
-    pub profile: Profile,
+    pub summary: Summary,
 }
 
 /// What a game is.
@@ -40,20 +40,20 @@ pub enum Canonicalized {
     Game(NewForm),
 }
 
-/// The canonical form of the game with these options, which equals no number, and has this profile. Equal games cut the numbers
-/// alike, so the form has the cuts of this profile too.
+/// The canonical form of the game with these options, which equals no number, and has this summary. Equal games cut the numbers
+/// alike, so the form has the cuts of this summary too.
 fn form_of(
     arena: &Arena,
     answers: &mut OrderMemo,
     lefts: &[u32],
     rights: &[u32],
-    profile: &Profile,
+    summary: &Summary,
     first_term: Option<FirstTerm>,
 ) -> Result<NewForm, AllocError>
     requires lefts { AreIndexes arena.now lefts.now }
     requires rights { AreIndexes arena.now rights.now }
     requires no_number { NoNumber (node (games_of arena.now lefts.now) (games_of arena.now rights.now)) }
-    requires cuts { HasCuts (node (games_of arena.now lefts.now) (games_of arena.now rights.now)) profile.now }
+    requires cuts { HasCuts (node (games_of arena.now lefts.now) (games_of arena.now rights.now)) summary.now }
     requires terms { ApartByTerm first_term (games_of arena.now lefts.now) (games_of arena.now rights.now) }
     requires right { AreRight arena.now answers.old }
     ensures form { (k : Game) → IsCanonicalForm (node (games_of arena.now lefts.now) (games_of arena.now rights.now)) k
@@ -62,21 +62,21 @@ fn form_of(
 {
     let mut new = NewForm {
         form: Form::new(answers.alloc()),
-        profile: *profile,
+        summary: *summary,
     };
     put_reduced(
         arena,
         answers,
         lefts,
         rights,
-        profile,
+        summary,
         first_term,
         &mut new.form,
     )?;
-    new.profile = profile_with(
+    new.summary = summary_with(
         arena,
-        profile.low,
-        profile.high,
+        summary.low,
+        summary.high,
         new.form.lefts.as_slice(),
         new.form.rights.as_slice(),
     );
@@ -107,8 +107,8 @@ pub fn canonicalize(
         Found::Number(x) => Ok(Canonicalized::Number(x)),
         Found::Outside(_) => Ok(Canonicalized::Outside),
         Found::Nothing => {
-            let profile = profile_between(arena, &low, &high, lefts, rights);
-            let new = form_of(arena, answers, lefts, rights, &profile, first_term)?;
+            let summary = summary_between(arena, &low, &high, lefts, rights);
+            let new = form_of(arena, answers, lefts, rights, &summary, first_term)?;
             Ok(Canonicalized::Game(new))
         }
     }

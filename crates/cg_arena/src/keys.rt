@@ -6,7 +6,7 @@ ghost use Rattle.std.specs.Prelude.{◌≡◌};
 ghost use Rattle.cg_dyadic.specs.Number.{InRange};
 ghost use Rattle.cg_arena.specs.Keys.{AreKeys, key_of};
 
-use crate::profile::Profile;
+use crate::summary::Summary;
 use cg_dyadic::{Dyadic, Wide};
 
 /// Where the two cuts of a game lie.
@@ -29,13 +29,13 @@ fn key_of(x: Dyadic, behind: bool) -> i128
 }
 
 impl Keys {
-    /// Those of the cuts of the profile.
-    pub(crate) fn of(profile: &Profile) -> Keys
-        ensures { AreKeys profile.now result }
+    /// Those of the cuts of the summary.
+    pub(crate) fn of(summary: &Summary) -> Keys
+        ensures { AreKeys summary.now result }
     {
         Keys {
-            low: key_of(profile.low.at, profile.low.closed),
-            high: key_of(profile.high.at, !profile.high.closed),
+            low: key_of(summary.low.at, summary.low.closed),
+            high: key_of(summary.high.at, !summary.high.closed),
         }
     }
 }

@@ -9,7 +9,7 @@ ghost use Rattle.cg_form.specs.Game.{node};
 ghost use Rattle.cg_form.specs.Simple.{NoNumber};
 ghost use Rattle.cg_arena.specs.Terms.{ApartByTerm};
 ghost use Rattle.cg_arena.specs.Arena.{AreIndexes, games_of};
-ghost use Rattle.cg_arena.specs.Profiles.{HasCuts};
+ghost use Rattle.cg_arena.specs.Summaries.{HasCuts};
 ghost use Rattle.cg_arena.specs.OrderMemos.{AreRight};
 ghost use Rattle.cg_arena.specs.Undominated.{Undominated};
 ghost use Rattle.cg_arena.specs.UnreducedGames.{AreKnown, UnreducedHolds, unreduced_game};
@@ -21,9 +21,9 @@ use crate::keys::Keys;
 use crate::order_memo::OrderMemo;
 use crate::owning::own_undominated;
 use crate::placing::put_in_order;
-use crate::profile::Profile;
 use crate::staying::all_stay;
 use crate::substitutes::Options;
+use crate::summary::Summary;
 use crate::terms::FirstTerm;
 use crate::unreduced::Unreduced;
 use crate::verdicts::Verdicts;
@@ -107,21 +107,21 @@ fn put_bypassed(
 }
 
 /// Puts the options of the canonical form of the game with these options, which equals no number, and which has the same cuts of the
-/// numbers as the profile, into the form, which has none. Where the game is a sum of two terms, `first_term` says which options come
+/// numbers as the summary, into the form, which has none. Where the game is a sum of two terms, `first_term` says which options come
 /// from the first. The only error is want of memory. (Siegel, Combinatorial Game Theory (2013), II.2.)
 pub(crate) fn put_reduced(
     arena: &Arena,
     answers: &mut OrderMemo,
     lefts: &[u32],
     rights: &[u32],
-    profile: &Profile,
+    summary: &Summary,
     first_term: Option<FirstTerm>,
     form: &mut Form,
 ) -> Result<(), AllocError>
     requires lefts { AreIndexes arena.now lefts.now }
     requires rights { AreIndexes arena.now rights.now }
     requires no_number { NoNumber (node (games_of arena.now lefts.now) (games_of arena.now rights.now)) }
-    requires cuts { HasCuts (node (games_of arena.now lefts.now) (games_of arena.now rights.now)) profile.now }
+    requires cuts { HasCuts (node (games_of arena.now lefts.now) (games_of arena.now rights.now)) summary.now }
     requires terms { ApartByTerm first_term (games_of arena.now lefts.now) (games_of arena.now rights.now) }
     requires right { AreRight arena.now answers.old }
     requires no_lefts { form.old.lefts.items ≡ [] }
@@ -137,8 +137,8 @@ pub(crate) fn put_reduced(
     let unreduced = Unreduced {
         lefts: own_lefts.as_slice(),
         rights: own_rights.as_slice(),
-        profile: *profile,
-        keys: Keys::of(profile),
+        summary: *summary,
+        keys: Keys::of(summary),
     };
     put_bypassed(arena, answers, &unreduced, form)
 }

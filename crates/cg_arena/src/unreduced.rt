@@ -11,7 +11,7 @@ use crate::decided::decided_for;
 use crate::keys::Keys;
 use crate::order::none_as_good;
 use crate::order_memo::OrderMemo;
-use crate::profile::Profile;
+use crate::summary::Summary;
 use crate::verdicts::Verdicts;
 use cg_form::cuts::in_cut;
 use std::alloc::AllocError;
@@ -24,9 +24,9 @@ pub(crate) struct Unreduced<'a> {
     pub lefts: &'a [u32],
     /// The Right options.
     pub rights: &'a [u32],
-    /// The profile of a game of the same value.
-    pub profile: Profile,
-    /// The keys of the profile.
+    /// The summary of a game of the same value.
+    pub summary: Summary,
+    /// The keys of the summary.
     pub keys: Keys,
 }
 
@@ -63,7 +63,7 @@ fn compared_with_unreduced(
     ensures known { AreKnown arena.now unreduced.now answers.new verdicts.new }
 {
     match arena.read(index) {
-        Read::Number(x) => Ok(in_cut(left, &unreduced.profile.cut(left), x)),
+        Read::Number(x) => Ok(in_cut(left, &unreduced.summary.cut(left), x)),
         Read::Game(lefts, rights) => {
             if !none_as_good(arena, answers, !left, index, unreduced.own(!left))? {
                 return Ok(false);

@@ -28,12 +28,17 @@ fn on_drawing(alloc: Global, call: &str, edges: &str) -> Result<String, AllocErr
 }
 
 /// The call on a position of Col or Snort.
-fn on_chart(alloc: Global, snort: bool, call: &str, texts: &str) -> Result<String, AllocError> {
+fn on_coloured_graph(
+    alloc: Global,
+    snort: bool,
+    call: &str,
+    texts: &str,
+) -> Result<String, AllocError> {
     let (vertices, edges) = cut(texts);
     match Colouring::read(alloc, snort, vertices.as_bytes(), edges.as_bytes()) {
-        Ok(chart) => {
-            let board = chart.board(alloc)?;
-            on_board(alloc, &chart, &board, call)
+        Ok(coloured_graph) => {
+            let board = coloured_graph.board(alloc)?;
+            on_board(alloc, &coloured_graph, &board, call)
         }
         Err(fault) => refusal(alloc, fault),
     }
@@ -46,5 +51,5 @@ pub(crate) fn answered(alloc: Global, line: &str) -> Result<String, AllocError> 
     if game == "Hackenbush" {
         return on_drawing(alloc, call, texts);
     }
-    on_chart(alloc, game == "Snort", call, texts)
+    on_coloured_graph(alloc, game == "Snort", call, texts)
 }

@@ -10,30 +10,30 @@ use Rattle.cg_nodes.specs.Meant.{Meant}
 use Rattle.cg_nodes.proofs.Members.{length_games}
 use Rattle.cg_nodes.proofs.Later.{are_games_later, games_later, listed_as, lists_later, spends_then}
 use Rattle.cg_canon.specs.declared.fault.ValueFault.TheVariants.{Depth, Full, Range}
-use Rattle.cg_arena.specs.declared.profile.Profile.{Profile}
+use Rattle.cg_arena.specs.declared.summary.Summary.{Summary}
 use Rattle.cg_arena.specs.declared.canonicalizing.NewForm.{NewForm}
 use Rattle.cg_arena.specs.Canonicalized.{IsNewForm}
 use Rattle.cg_canon.specs.Paid.{written}
 use Rattle.cg_canon.specs.Items.{AllPass, IsStopped, made}
 use Rattle.cg_canon.specs.NumberItems.{number_made}
-use Rattle.cg_arena.specs.Profiles.{IsProfile}
+use Rattle.cg_arena.specs.Summaries.{IsSummary}
 use Rattle.cg_canon.proofs.ItemLaws.{all_pass-after, stopped-one}
 
 -- ---- one form
 
-pub too_deep : (share spent extra : ℕ) (g : Game) (p : Profile) → IsProfile g p → 512 < p.depth
+pub too_deep : (share spent extra : ℕ) (g : Game) (p : Summary) → IsSummary g p → 512 < p.depth
     → IsStopped (Depth p.depth) share spent (made g extra ∷ []) spent
 too_deep share spent extra g p h deep =
     stopped-one (Depth p.depth) share spent (made g extra) [] (h.in_range, h.depth, deep)
 
-pub too_dear : (share spent extra : ℕ) (g : Game) (p : Profile) → IsProfile g p → p.depth ≤ 512 → share < spent + (p.cost + extra)
+pub too_dear : (share spent extra : ℕ) (g : Game) (p : Summary) → IsSummary g p → p.depth ≤ 512 → share < spent + (p.cost + extra)
     → IsStopped (Full (spent + (p.cost + extra))) share spent (made g extra ∷ []) spent
 too_dear share spent extra g p h deep dear =
     let c = h.cost in
     let d = h.depth in
     stopped-one (Full (spent + (p.cost + extra))) share spent (made g extra) [] (h.in_range, omega arith, omega arith, dear)
 
-pub one_passes : (share spent extra : ℕ) (g : Game) (p : Profile) → IsProfile g p → p.depth ≤ 512 → spent + (p.cost + extra) ≤ share
+pub one_passes : (share spent extra : ℕ) (g : Game) (p : Summary) → IsSummary g p → p.depth ≤ 512 → spent + (p.cost + extra) ≤ share
     → AllPass share spent (made g extra ∷ []) (spent + (p.cost + extra))
 one_passes share spent extra g p h deep within =
     let c = h.cost in
@@ -73,8 +73,8 @@ pub canonical_node : (a b c d : List Game) → a ≡ c → b ≡ d → Canonical
 canonical_node a b c d e f k = let P : Game → Type 0 = λ z. Canonical z in subst P (sym (same_node a b c d e f)) k
 
 -- the cost of a form, by the handles of its options
-pub cost_of_options : {R : Type 0} (s : State Meant R) (ls rs : List ℕ) (gs hs : List Game) (p : Profile)
-    → games_at s ls ≡ gs → games_at s rs ≡ hs → IsProfile (node gs hs) p → p.cost ≡ 1 + length ls + length rs
+pub cost_of_options : {R : Type 0} (s : State Meant R) (ls rs : List ℕ) (gs hs : List Game) (p : Summary)
+    → games_at s ls ≡ gs → games_at s rs ≡ hs → IsSummary (node gs hs) p → p.cost ≡ 1 + length ls + length rs
 cost_of_options s ls rs gs hs p a b i =
     let x = ap length (lefts-node gs hs) in
     let y = ap length (rights-node gs hs) in
@@ -113,4 +113,4 @@ outside_refused share spent extra g x e n =
 -- what was found is the form that is written
 pub new_written : (gs : List Game) (form : Game) (new : NewForm) → IsNewForm gs form new → IsNewForm gs (written gs new) new
 new_written gs form new h =
-    record { lefts = h.lefts; rights = h.rights; is = refl; profile = rw (← h.is) h.profile }
+    record { lefts = h.lefts; rights = h.rights; is = refl; summary = rw (← h.is) h.summary }

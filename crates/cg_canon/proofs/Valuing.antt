@@ -8,7 +8,7 @@ use Rattle.cg_nodes.specs.CanForms.{can-fixed}
 use Rattle.cg_nodes.specs.Meant.{Meant}
 use Rattle.cg_arena.specs.declared.canonicalizing.NewForm.{NewForm}
 use Rattle.cg_arena.specs.Arena.{StandFor, games_of}
-use Rattle.cg_arena.specs.Profiles.{IsProfile}
+use Rattle.cg_arena.specs.Summaries.{IsSummary}
 use Rattle.cg_arena.specs.Canonicalized.{IsNewForm}
 use Rattle.cg_canon.specs.declared.interner.Interner.{Interner}
 use Rattle.cg_canon.specs.declared.cache.Cache.{Cache}
@@ -32,8 +32,8 @@ searched s t spent share start h b w k holds =
 
 -- what was made of the indexes of a game that is canonical as it is given
 pub given_form : (gs ls rs : List Game) (new : NewForm) → Canonical (node ls rs) → StandFor gs new.form.lefts.items ls
-    → StandFor gs new.form.rights.items rs → IsProfile (node (games_of gs new.form.lefts.items) (games_of gs new.form.rights.items)) new.profile
+    → StandFor gs new.form.rights.items rs → IsSummary (node (games_of gs new.form.lefts.items) (games_of gs new.form.rights.items)) new.summary
     → IsNewForm gs (can (node ls rs)) new
 given_form gs ls rs new c l r p =
     let is = can-fixed (node ls rs) c ∙ sym (same_node _ _ _ _ l.1 r.1) in
-    record { lefts = l.0; rights = r.0; is = is; profile = rw is p }
+    record { lefts = l.0; rights = r.0; is = is; summary = rw is p }

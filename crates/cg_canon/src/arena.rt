@@ -7,13 +7,13 @@ ghost use Rattle.cg_form.specs.Canonical.{Canonical};
 ghost use Rattle.cg_cells.specs.Store.{Spends};
 ghost use Rattle.cg_nodes.specs.Games.{IsGame, StandsFor, game_at};
 ghost use Rattle.cg_arena.specs.Arena.{IsIndex, IsRead, game_of};
-ghost use Rattle.cg_arena.specs.Profiles.{IsProfile};
+ghost use Rattle.cg_arena.specs.Summaries.{IsSummary};
 ghost use Rattle.cg_canon.specs.Arena.{Begins, IsAt};
 ghost use Rattle.cg_canon.specs.Works.{work_state};
 
 use crate::indexing::index_of_handle;
 use crate::work::Work;
-use cg_arena::{Profile, Read};
+use cg_arena::{Read, Summary};
 use cg_cells::CellStore;
 use cg_nodes::{BoardForms, GameFacts, Handle};
 use std::alloc::{AllocError, Global};
@@ -50,10 +50,10 @@ impl<'a, B: BoardForms, S: CellStore<GameFacts<B>>> Work<'a, B, S> {
 
     /// What is known of the game at the index besides its options.
     #[inline(always)]
-    pub fn profile_at(&self, index: u32) -> &Profile
+    pub fn summary_at(&self, index: u32) -> &Summary
         requires { IsIndex self.now.arena index }
-        ensures { IsProfile (game_of self.now.arena index) result.now }
+        ensures { IsSummary (game_of self.now.arena index) result.now }
     {
-        self.cache.memo.interner.arena.profile(index)
+        self.cache.memo.interner.arena.summary(index)
     }
 }

@@ -4,14 +4,14 @@ ghost use Rattle.cg_form.specs.Canonical.{Canonical};
 ghost use Rattle.cg_form.specs.Game.{node, number};
 ghost use Rattle.cg_nodes.specs.Games.{IsGame, game_at};
 ghost use Rattle.cg_arena.specs.Arena.{AreIndexes, IsIndex, game_of, games_of};
-ghost use Rattle.cg_arena.specs.Profiles.{IsProfile};
+ghost use Rattle.cg_arena.specs.Summaries.{IsSummary};
 ghost use Rattle.cg_canon.specs.Arena.{Begins};
 ghost use Rattle.cg_canon.specs.Interners.{InternerHolds};
 
-use crate::hint_index::number_of_handle;
 use crate::interner::{Interner, number_of_form};
+use crate::lossy_index::number_of_handle;
 use crate::number_up_star::NumberUpStar;
-use cg_arena::Profile;
+use cg_arena::Summary;
 use cg_cells::CellStore;
 use cg_dyadic::Dyadic;
 use cg_nodes::{BoardForms, GameFacts, Handle};
@@ -44,7 +44,7 @@ pub(crate) fn enter_number<B: BoardForms, S: CellStore<GameFacts<B>>>(
     Ok(index)
 }
 
-/// An index for the handle's game, which has these options and this profile. The only error is want of memory.
+/// An index for the handle's game, which has these options and this summary. The only error is want of memory.
 #[inline(always)]
 pub(crate) fn enter_game<B: BoardForms, S: CellStore<GameFacts<B>>>(
     store: &S,
@@ -52,7 +52,7 @@ pub(crate) fn enter_game<B: BoardForms, S: CellStore<GameFacts<B>>>(
     handle: Handle,
     lefts: &[u32],
     rights: &[u32],
-    profile: &Profile,
+    summary: &Summary,
 ) -> Result<u32, AllocError>
     requires holds { InternerHolds (S.state store.now) interner.old }
     requires game { IsGame (S.state store.now) handle }
@@ -61,7 +61,7 @@ pub(crate) fn enter_game<B: BoardForms, S: CellStore<GameFacts<B>>>(
     requires rights { AreIndexes interner.old.arena rights.now }
     requires is { game_at (S.state store.now) handle
         ≡ node (games_of interner.old.arena lefts.now) (games_of interner.old.arena rights.now) }
-    requires profile { IsProfile (game_at (S.state store.now) handle) profile.now }
+    requires summary { IsSummary (game_at (S.state store.now) handle) summary.now }
     ensures holds { InternerHolds (S.state store.now) interner.new }
     ensures begins { Begins interner.old.arena interner.new.arena }
     ensures index { IfOk result (λ p. IsIndex interner.new.arena p
@@ -72,7 +72,7 @@ pub(crate) fn enter_game<B: BoardForms, S: CellStore<GameFacts<B>>>(
     }
     interner.by_id.reserve(1)?;
     interner.handles.reserve(1)?;
-    let index = interner.arena.add_game(lefts, rights, profile)?;
+    let index = interner.arena.add_game(lefts, rights, summary)?;
     interner.name(handle, number_of_form(lefts, rights));
     let parts = interner.recognized.seen(lefts, rights);
     interner.recognized.enter(index, parts);

@@ -8,7 +8,7 @@ ghost use Rattle.cg_canon.specs.Interners.{InternerHolds};
 
 use crate::entering::{enter_game, enter_number};
 use crate::interner::{IndexList, Interner};
-use cg_arena::profile_of_lists;
+use cg_arena::summary_of_lists;
 use cg_cells::CellStore;
 use cg_nodes::{BoardForms, GameFacts, Handle, ListId, Reading, head, read};
 use smallvec::SmallVec;
@@ -60,14 +60,14 @@ fn new_index<B: BoardForms, S: CellStore<GameFacts<B>>>(
         Reading::Game(lefts, rights) => {
             let low = indexes_of_list(alloc, store, interner, lefts)?;
             let high = indexes_of_list(alloc, store, interner, rights)?;
-            let profile = profile_of_lists(&interner.arena, low.as_slice(), high.as_slice());
+            let summary = summary_of_lists(&interner.arena, low.as_slice(), high.as_slice());
             enter_game(
                 store,
                 interner,
                 handle,
                 low.as_slice(),
                 high.as_slice(),
-                &profile,
+                &summary,
             )
         }
     }

@@ -12,8 +12,8 @@ ghost use Rattle.cg_arena.specs.OrderMemos.{IsKept};
 ghost use Rattle.cg_canon.specs.Interners.{AreApart, InternerHolds, HasHandle, IsNew};
 ghost use Rattle.cg_canon.specs.Recognized.{AreRecognized};
 
-use crate::hint_index::{HintIndex, half_of, mixed};
 use crate::kept_sums::KeptSums;
+use crate::lossy_index::{LossyIndex, half_of, mixed};
 use crate::recognized::Recognized;
 use cg_arena::{Arena, OrderMemo, Read};
 use cg_cells::CellStore;
@@ -42,7 +42,7 @@ pub(crate) struct Interner {
     /// Whether `by_id` has them all. Room is taken before a handle is added, so it does.
     is_complete: bool,
     /// Where the index of a form is looked for, by the indexes of its options.
-    forms: HintIndex,
+    forms: LossyIndex,
     /// Sums of pairs of games.
     pub(crate) pairs: KeptSums,
     /// What the games are known as.
@@ -91,7 +91,7 @@ impl Interner {
             handles: Vec::new(alloc),
             by_id: HashIndex::new(alloc),
             is_complete: true,
-            forms: HintIndex::new(alloc),
+            forms: LossyIndex::new(alloc),
             pairs: KeptSums::new(alloc),
             recognized: Recognized::new(alloc),
         }

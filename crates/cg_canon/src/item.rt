@@ -7,7 +7,7 @@ ghost use Rattle.cg_canon.specs.Works.{IsUnspent, work_state};
 
 use crate::fault::ValueFault;
 use crate::work::Work;
-use cg_arena::Profile;
+use cg_arena::Summary;
 use cg_cells::CellStore;
 use cg_dyadic::Dyadic;
 use cg_nodes::{BoardForms, GameFacts, Handle, number};
@@ -34,7 +34,7 @@ pub fn number_item<B: BoardForms, S: CellStore<GameFacts<B>>>(
     match x {
         None => Err(ValueFault::Range),
         Some(value) => {
-            work.charge_form(&Profile::number(value), extra)?;
+            work.charge_form(&Summary::number(value), extra)?;
             Ok(number(work, value))
         }
     }
@@ -56,7 +56,7 @@ pub fn item_of<B: BoardForms, S: CellStore<GameFacts<B>>>(
     ensures given { let W = work_state S.state work.old in FormGiven W (work_state S.state work.new) (game_at W handle) extra result }
     ensures own { IfOk result (λ h. h ≡ handle) }
 {
-    let profile = work.profile_of(alloc, handle)?;
-    work.charge_form(&profile, extra)?;
+    let summary = work.summary_of(alloc, handle)?;
+    work.charge_form(&summary, extra)?;
     Ok(handle)
 }

@@ -6,7 +6,7 @@ ghost use Rattle.cg_arena.specs.Arena.{IsIndex, game_of};
 ghost use Rattle.cg_canon.specs.Arena.{IsAt};
 ghost use Rattle.cg_canon.specs.KeptSums.{IsKeptSum, kept_of};
 
-use crate::hint_index::{HintIndex, half_of, mixed};
+use crate::lossy_index::{LossyIndex, half_of, mixed};
 use crate::work::Work;
 use cg_cells::CellStore;
 use cg_nodes::{BoardForms, GameFacts};
@@ -24,7 +24,7 @@ pub(crate) struct KeptSum {
 #[derive(Drop)]
 pub(crate) struct KeptSums {
     sums: Vec<KeptSum>,
-    places: HintIndex,
+    places: LossyIndex,
 }
 
 /// A number for the pair.
@@ -47,7 +47,7 @@ impl KeptSums {
     {
         KeptSums {
             sums: Vec::new(alloc),
-            places: HintIndex::new(alloc),
+            places: LossyIndex::new(alloc),
         }
     }
 

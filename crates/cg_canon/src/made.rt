@@ -5,8 +5,8 @@
 ghost use Rattle.std.specs.Prelude.{◌≡◌, [], IfSome, IsTrue, OnErr};
 ghost use Rattle.cg_canon.specs.MadeForms.{IsKept, IsMade};
 
-use crate::hint_index::{HintIndex, half_of, mixed};
 use crate::interner::HandleList;
+use crate::lossy_index::{LossyIndex, half_of, mixed};
 use cg_nodes::Handle;
 use smallvec::SmallVec;
 use std::alloc::{AllocError, Global};
@@ -25,7 +25,7 @@ pub(crate) struct MadeForms {
     alloc: Global,
     forms: Vec<MadeForm>,
     /// Where the form of two lists is looked for.
-    places: HintIndex,
+    places: LossyIndex,
 }
 
 /// The greatest number of forms that are kept.
@@ -64,7 +64,7 @@ impl MadeForms {
         MadeForms {
             alloc,
             forms: Vec::new(alloc),
-            places: HintIndex::new(alloc),
+            places: LossyIndex::new(alloc),
         }
     }
 

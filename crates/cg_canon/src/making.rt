@@ -18,7 +18,7 @@ use crate::interner::{Interner, put_handles};
 use crate::made::are_same;
 use crate::meter::Meter;
 use crate::value::{Way, value_of_lists};
-use cg_arena::{Canonicalized, NewForm, Profile};
+use cg_arena::{Canonicalized, NewForm, Summary};
 use cg_cells::CellStore;
 use cg_dyadic::Dyadic;
 use cg_nodes::{BoardForms, GameFacts, Handle, ListId, game, list, number, prefetch_game};
@@ -41,7 +41,7 @@ fn enter_form<B: BoardForms, S: CellStore<GameFacts<B>>>(
 {
     let lefts = new.form.lefts.as_slice();
     let rights = new.form.rights.as_slice();
-    let _entered = enter_game(store, interner, handle, lefts, rights, &new.profile);
+    let _entered = enter_game(store, interner, handle, lefts, rights, &new.summary);
 }
 
 /// The list of the Right options, where that of the Left options was made. The same options have the same list, as those of
@@ -96,7 +96,7 @@ fn claimed<B: BoardForms, S: CellStore<GameFacts<B>>>(
     requires holds { InternerHolds (S.state store.old) interner.old }
     requires form { IsNewForm interner.old.arena (written interner.old.arena new.now) new.now }
     requires canonical { Canonical (written interner.old.arena new.now) }
-    requires spare { new.now.profile.cost ≤ (S.state store.old).spare }
+    requires spare { new.now.summary.cost ≤ (S.state store.old).spare }
     requires lefts { AreGames (S.state store.old) lefts.now }
     requires rights { AreGames (S.state store.old) rights.now }
     requires left_games { games_at (S.state store.old) lefts.now ≡ games_of interner.old.arena
@@ -106,7 +106,7 @@ fn claimed<B: BoardForms, S: CellStore<GameFacts<B>>>(
     ensures holds { InternerHolds (S.state store.new) interner.new }
     ensures begins { Begins interner.old.arena interner.new.arena }
     ensures game { StandsFor (S.state store.new) result (written interner.old.arena new.now) }
-    ensures spends { (n : ℕ) × (n ≤ new.now.profile.cost) × Spends n (S.state store.old) (S.state store.new) }
+    ensures spends { (n : ℕ) × (n ≤ new.now.summary.cost) × Spends n (S.state store.old) (S.state store.new) }
 {
     let handle = claimed_game(store, lefts, rights);
     enter_form(&*store, interner, handle, new);
@@ -136,7 +136,7 @@ pub(crate) fn make_form<B: BoardForms, S: CellStore<GameFacts<B>>>(
     put_handles(&*store, interner, new.form.lefts.as_slice(), &mut lefts)?;
     let mut rights = SmallVec::new(alloc);
     put_handles(&*store, interner, new.form.rights.as_slice(), &mut rights)?;
-    meter.charge_form(&new.profile, extra)?;
+    meter.charge_form(&new.summary, extra)?;
     Ok(claimed(store, interner, lefts.as_slice(), rights.as_slice(), new))
 }
 
@@ -151,7 +151,7 @@ pub(crate) fn make_number<B: BoardForms, S: CellStore<GameFacts<B>>>(
     requires meter { MayPay (S.state store.old) meter.old }
     ensures { IsPaid (S.state store.old) (S.state store.new) meter.old meter.new (number x) extra result }
 {
-    meter.charge_form(&Profile::number(x), extra)?;
+    meter.charge_form(&Summary::number(x), extra)?;
     Ok(number(store, x))
 }
 

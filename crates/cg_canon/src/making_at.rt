@@ -15,7 +15,7 @@ use crate::fault::ValueFault;
 use crate::interner::Interner;
 use crate::making::{make_form, make_number};
 use crate::meter::Meter;
-use cg_arena::{Canonicalized, FirstTerm, Form, NewForm, canonicalize, profile_of_lists};
+use cg_arena::{Canonicalized, FirstTerm, Form, NewForm, canonicalize, summary_of_lists};
 use cg_cells::CellStore;
 use cg_dyadic::Dyadic;
 use cg_nodes::{BoardForms, GameFacts};
@@ -42,7 +42,7 @@ pub(crate) fn known_at<B: BoardForms, S: CellStore<GameFacts<B>>>(
 {
     // Read for the proof alone: what the meter may pay is what the store has to spare.
     let _ = store;
-    meter.charge_form(interner.arena.profile(index), extra)?;
+    meter.charge_form(interner.arena.summary(index), extra)?;
     Ok(index)
 }
 
@@ -128,7 +128,7 @@ pub(crate) fn given_at<B: BoardForms, S: CellStore<GameFacts<B>>>(
     if let Some(index) = interner.index_of_form(lefts, rights) {
         return known_at(&*store, interner, meter, index, extra);
     }
-    let profile = profile_of_lists(&interner.arena, lefts, rights);
+    let summary = summary_of_lists(&interner.arena, lefts, rights);
     let form = Form {
         lefts: SmallVec::from_slice(alloc, lefts)?,
         rights: SmallVec::from_slice(alloc, rights)?,
@@ -138,7 +138,7 @@ pub(crate) fn given_at<B: BoardForms, S: CellStore<GameFacts<B>>>(
         store,
         interner,
         meter,
-        &NewForm { form, profile },
+        &NewForm { form, summary },
         extra,
     )
 }

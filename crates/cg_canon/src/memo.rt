@@ -6,8 +6,8 @@ ghost use Rattle.cg_canon.specs.Interners.{AreApart};
 ghost use Rattle.cg_canon.specs.Recognized.{AreRecognized};
 ghost use Rattle.cg_canon.specs.Memos.{IsAdded, added_sum};
 
-use crate::hint_index::{HintIndex, half_of, mixed};
 use crate::interner::Interner;
+use crate::lossy_index::{LossyIndex, half_of, mixed};
 use cg_nodes::Handle;
 use std::alloc::{AllocError, Global};
 
@@ -36,7 +36,7 @@ pub(crate) struct Memo {
     pub(crate) interner: Interner,
     sums: Vec<AddedSum>,
     /// Where the sum of a pair is looked for.
-    places: HintIndex,
+    places: LossyIndex,
 }
 
 /// A number for a pair of ids.
@@ -58,7 +58,7 @@ impl Memo {
         Memo {
             interner: Interner::new(alloc),
             sums: Vec::new(alloc),
-            places: HintIndex::new(alloc),
+            places: LossyIndex::new(alloc),
         }
     }
 

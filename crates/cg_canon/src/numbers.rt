@@ -27,8 +27,8 @@ pub fn number_le<B: BoardForms, S: CellStore<GameFacts<B>>>(
     ensures order { IfOk result (λ answer. answer ≡ le (number x) (game_at (work_state S.state work.old) a)) }
     ensures spends { Spends 0 (work_state S.state work.old) (work_state S.state work.new) }
 {
-    let profile = work.profile_of(alloc, a)?;
-    Ok(in_cut(true, &profile.low, x))
+    let summary = work.summary_of(alloc, a)?;
+    Ok(in_cut(true, &summary.low, x))
 }
 
 /// Whether a <= x. The only error is want of memory.
@@ -42,8 +42,8 @@ pub fn le_number<B: BoardForms, S: CellStore<GameFacts<B>>>(
     ensures order { IfOk result (λ answer. answer ≡ le (game_at (work_state S.state work.old) a) (number x)) }
     ensures spends { Spends 0 (work_state S.state work.old) (work_state S.state work.new) }
 {
-    let profile = work.profile_of(alloc, a)?;
-    Ok(in_cut(false, &profile.high, x))
+    let summary = work.summary_of(alloc, a)?;
+    Ok(in_cut(false, &summary.high, x))
 }
 
 impl<'a, B: BoardForms, S: CellStore<GameFacts<B>>> Work<'a, B, S> {
@@ -52,7 +52,7 @@ impl<'a, B: BoardForms, S: CellStore<GameFacts<B>>> Work<'a, B, S> {
         requires { IsIndex self.now.arena index }
         ensures { result ≡ le (number x) (game_of self.now.arena index) }
     {
-        in_cut(true, &self.profile_at(index).low, x)
+        in_cut(true, &self.summary_at(index).low, x)
     }
 
     /// Whether the game at the index is at most x.
@@ -60,6 +60,6 @@ impl<'a, B: BoardForms, S: CellStore<GameFacts<B>>> Work<'a, B, S> {
         requires { IsIndex self.now.arena index }
         ensures { result ≡ le (game_of self.now.arena index) (number x) }
     {
-        in_cut(false, &self.profile_at(index).high, x)
+        in_cut(false, &self.summary_at(index).high, x)
     }
 }

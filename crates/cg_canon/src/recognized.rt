@@ -8,8 +8,8 @@ ghost use Rattle.cg_arena.specs.Arena.{games_of};
 ghost use Rattle.cg_canon.specs.NumberUpStars.{game_of as game_of_parts};
 ghost use Rattle.cg_canon.specs.Recognized.{AreNimbers, AreRecognized, IsKnownAt, IsListed};
 
-use crate::hint_index::{HintIndex, half_of, mixed};
 use crate::interner::are_equal;
+use crate::lossy_index::{LossyIndex, half_of, mixed};
 use crate::number_up_star::NumberUpStar;
 use std::alloc::Global;
 
@@ -27,7 +27,7 @@ pub(crate) struct Recognized {
     /// For each index where its game may stand among the games.
     marks: Vec<u32>,
     /// Where a game is looked for by its parts.
-    by_parts: HintIndex,
+    by_parts: LossyIndex,
     /// The indexes of 0, *1, *2 and so on, as far as they were met in this order.
     nimbers: Vec<u32>,
 }
@@ -91,7 +91,7 @@ impl Recognized {
         Recognized {
             games: Vec::new(alloc),
             marks: Vec::new(alloc),
-            by_parts: HintIndex::new(alloc),
+            by_parts: LossyIndex::new(alloc),
             nimbers: Vec::new(alloc),
         }
     }

@@ -12,7 +12,7 @@ ghost use Rattle.cg_canon.specs.Ways.{IsWay};
 use crate::indexing::put_indexes;
 use crate::interner::Interner;
 use crate::made::are_same;
-use cg_arena::{Canonicalized, Form, NewForm, canonicalize, profile_of_lists};
+use cg_arena::{Canonicalized, Form, NewForm, canonicalize, summary_of_lists};
 use cg_cells::CellStore;
 use cg_nodes::{BoardForms, GameFacts, Handle};
 use smallvec::SmallVec;
@@ -81,10 +81,10 @@ pub(crate) fn value_of_lists<B: BoardForms, S: CellStore<GameFacts<B>>>(
     match way {
         Way::Search => canonicalize(&interner.arena, &mut interner.answers, lefts, rights, None),
         Way::AsGiven => {
-            let profile = profile_of_lists(&interner.arena, lefts, rights);
+            let summary = summary_of_lists(&interner.arena, lefts, rights);
             Ok(Canonicalized::Game(NewForm {
                 form: both,
-                profile,
+                summary,
             }))
         }
     }

@@ -23,7 +23,7 @@ use Rattle.cg_clobber.specs.Lawful.{clobber_lawful}
 use Rattle.cg_clobber.specs.Moves.{clobber}
 use Rattle.cg_amazons.specs.Amazons.{amazons}
 use Rattle.cg_amazons.specs.AmazonsMoves.{amazons_lawful}
-use Rattle.cg_graph.specs.Charts.{Chart, chart_read, chart_rules, chart_start, edges_of}
+use Rattle.cg_graph.specs.ColouredGraphs.{ColouredGraph, coloured_graph_read, coloured_graph_rules, coloured_graph_start, edges_of}
 use Rattle.cg_graph.specs.ColouringLaw.{colouring_lawful}
 use Rattle.cg_graph.specs.Drawings.{colours_of, drawing_read, drawing_rules, drawing_start, graph_of}
 use Rattle.cg_graph.specs.HackenbushLaw.{hackenbush_lawful, length-kept}
@@ -35,7 +35,7 @@ use Rattle.cg_strip.specs.ToadsLaws.{toads_lawful}
 use Rattle.cg_values.specs.Items.{board_items, cut_items, value_item, value_items, whole_items}
 use Rattle.cg_query.specs.declared.kind.GameKind.{GameKind}
 use Rattle.cg_query.specs.declared.kind.GameKind.TheVariants.{Domineering, Clobber, Amazons, Toads, Strip, Hackenbush, Col, Snort}
-use Rattle.cg_eval.specs.Boards.{IsStrip, Position, board, faulty, no_row, no_rules, not_lowered, position_by, position_charted, position_drawn}
+use Rattle.cg_eval.specs.Boards.{IsStrip, Position, board, faulty, no_row, no_rules, not_lowered, position_by, position_coloured, position_drawn}
 use Rattle.cg_eval.specs.Boards.{position_form, position_items, position_of, strip_board, strip_position}
 use Rattle.cg_eval.specs.Parts.{IsSound}
 use Rattle.cg_eval.proofs.CutEnds.{ends-cut}
@@ -90,14 +90,14 @@ played-drawn (Ok drawing) = (hackenbush_lawful (graph_of drawing), drawing-has d
 played-drawn (Err fault) = tt
 
 -- the row of the vertices
-chart-has : (chart : Chart) → (chart_rules chart).has (chart_start chart) ≡ true
-chart-has chart =
-    let n = length chart.vertices in
+coloured_graph-has : (coloured_graph : ColouredGraph) → (coloured_graph_rules coloured_graph).has (coloured_graph_start coloured_graph) ≡ true
+coloured_graph-has coloured_graph =
+    let n = length coloured_graph.vertices in
     and_from (bytes_eq (codes ".xo") (codes ".xo")) (n == n) refl (eq-eqb n n refl)
 
-played-charted : (read : Result Chart GraphFault) → IsPlayed (position_charted read)
-played-charted (Ok chart) = (colouring_lawful chart.snort (length chart.vertices) (edges_of chart.edges), chart-has chart)
-played-charted (Err fault) = tt
+played-coloured : (read : Result ColouredGraph GraphFault) → IsPlayed (position_coloured read)
+played-coloured (Ok coloured_graph) = (colouring_lawful coloured_graph.snort (length coloured_graph.vertices) (edges_of coloured_graph.edges), coloured_graph-has coloured_graph)
+played-coloured (Err fault) = tt
 
 played : (kind : GameKind) (rules text : List ℕ) → IsPlayed (position_of kind rules text)
 played Domineering rules text = played-by domineering (read_of (codes ".#") false text) domineering_lawful
@@ -110,8 +110,8 @@ played Toads rules text = played-by toads_game (read_of (codes ".TF") true text)
     (λ p e. row-has (codes ".TF") text p e)
 played Strip rules text = played-strip rules text (strip_position rules text) (strip-some rules text)
 played Hackenbush rules text = played-drawn (drawing_read rules)
-played Col rules text = played-charted (chart_read false text rules)
-played Snort rules text = played-charted (chart_read true text rules)
+played Col rules text = played-coloured (coloured_graph_read false text rules)
+played Snort rules text = played-coloured (coloured_graph_read true text rules)
 
 sound-played : (q : Position) → IsPlayed q → IsSound q
 sound-played (board r p) h = h.1

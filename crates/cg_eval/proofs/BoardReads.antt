@@ -14,12 +14,12 @@ use Rattle.cg_strip.specs.Rulebook.{Rulebook, symbols_of}
 use Rattle.cg_strip.specs.StripGame.{strip_game}
 use Rattle.cg_strip.specs.Toads.{toads_game}
 use Rattle.cg_strip.specs.ToadsBoards.{IsNoToadsBoard}
-use Rattle.cg_graph.specs.Charts.{Chart, chart_read, chart_rules, chart_start}
+use Rattle.cg_graph.specs.ColouredGraphs.{ColouredGraph, coloured_graph_read, coloured_graph_rules, coloured_graph_start}
 use Rattle.cg_graph.specs.Drawings.{drawing_read, drawing_rules, drawing_start}
 use Rattle.cg_graph.specs.declared.edge.ColouredEdge.{ColouredEdge}
 use Rattle.cg_graph.specs.declared.fault.GraphFault.{GraphFault}
 use Rattle.cg_graph.specs.declared.fault.GraphFault.TheVariants as graph
-use Rattle.cg_eval.specs.Boards.{Position, board, faulty, no_row, no_rules, not_lowered, position_by, position_charted, position_drawn}
+use Rattle.cg_eval.specs.Boards.{Position, board, faulty, no_row, no_rules, not_lowered, position_by, position_coloured, position_drawn}
 use Rattle.cg_eval.specs.Boards.{position_fault, strip_board, strip_position}
 use Rattle.cg_eval.specs.IllFormed.{is_memory}
 use Rattle.cg_eval.specs.Parts.{IsFaultOf, IsFaulty, set_up}
@@ -92,11 +92,11 @@ pub drawn-faulty : (edges : List ℕ) (fault : GraphFault) → (fault ≡ graph.
 drawn-faulty edges fault (inl e) = inl (ap (λ z. is_memory (by.Graph z)) e)
 drawn-faulty edges fault (inr e) = inr (ap position_drawn e)
 
-pub charted-faulty : (snort : Bool) (vertices edges : List ℕ) (fault : GraphFault)
-    → (fault ≡ graph.Memory) ⊎ (chart_read snort vertices edges ≡ Err fault)
-    → IsFaulty (position_charted (chart_read snort vertices edges)) (by.Graph fault)
-charted-faulty snort vertices edges fault (inl e) = inl (ap (λ z. is_memory (by.Graph z)) e)
-charted-faulty snort vertices edges fault (inr e) = inr (ap position_charted e)
+pub coloured-faulty : (snort : Bool) (vertices edges : List ℕ) (fault : GraphFault)
+    → (fault ≡ graph.Memory) ⊎ (coloured_graph_read snort vertices edges ≡ Err fault)
+    → IsFaulty (position_coloured (coloured_graph_read snort vertices edges)) (by.Graph fault)
+coloured-faulty snort vertices edges fault (inl e) = inl (ap (λ z. is_memory (by.Graph z)) e)
+coloured-faulty snort vertices edges fault (inr e) = inr (ap position_coloured e)
 
 -- ---- the fault of a reading
 
@@ -107,7 +107,7 @@ board-none (boards.Amazons p) = refl
 board-none (boards.Toads p) = refl
 board-none (boards.Strip book p) = refl
 board-none (boards.Hackenbush drawing p) = refl
-board-none (boards.Colouring chart p) = refl
+board-none (boards.Colouring coloured_graph p) = refl
 
 some-fault : (q : Position) (fault : GameFault) → is_memory fault ≡ false → IsFaulty q fault
     → Some fault ≡ position_fault q
@@ -133,7 +133,7 @@ pub drawn-set_up : (edges : List ℕ) (drawing : List ColouredEdge) (p : Grid) �
     → p ≡ drawing_start drawing → position_drawn (drawing_read edges) ≡ set_up (boards.Hackenbush drawing p)
 drawn-set_up edges drawing p e f = ap position_drawn e ∙ ap (λ z. board (drawing_rules drawing) z) (sym f)
 
-pub charted-set_up : (snort : Bool) (vertices edges : List ℕ) (chart : Chart) (p : Grid)
-    → chart_read snort vertices edges ≡ Ok chart → p ≡ chart_start chart
-    → position_charted (chart_read snort vertices edges) ≡ set_up (boards.Colouring chart p)
-charted-set_up snort vertices edges chart p e f = ap position_charted e ∙ ap (λ z. board (chart_rules chart) z) (sym f)
+pub coloured-set_up : (snort : Bool) (vertices edges : List ℕ) (coloured_graph : ColouredGraph) (p : Grid)
+    → coloured_graph_read snort vertices edges ≡ Ok coloured_graph → p ≡ coloured_graph_start coloured_graph
+    → position_coloured (coloured_graph_read snort vertices edges) ≡ set_up (boards.Colouring coloured_graph p)
+coloured-set_up snort vertices edges coloured_graph p e f = ap position_coloured e ∙ ap (λ z. board (coloured_graph_rules coloured_graph) z) (sym f)

@@ -12,7 +12,7 @@ use Rattle.cg_moves.specs.Texts.{read_of}
 use Rattle.cg_domineering.specs.Moves.{domineering}
 use Rattle.cg_clobber.specs.Moves.{clobber}
 use Rattle.cg_amazons.specs.Amazons.{amazons}
-use Rattle.cg_graph.specs.Charts.{Chart, chart_read, chart_rules, chart_start}
+use Rattle.cg_graph.specs.ColouredGraphs.{ColouredGraph, coloured_graph_read, coloured_graph_rules, coloured_graph_start}
 use Rattle.cg_graph.specs.Drawings.{drawing_read, drawing_rules, drawing_start}
 use Rattle.cg_graph.specs.declared.edge.ColouredEdge.{ColouredEdge}
 use Rattle.cg_graph.specs.declared.fault.GraphFault.{GraphFault}
@@ -82,9 +82,9 @@ abbrev pub position_drawn : Result (List ColouredEdge) GraphFault → Position
 position_drawn (Ok drawing) = board (drawing_rules drawing) (drawing_start drawing)
 position_drawn (Err fault) = faulty (by.Graph fault)
 
-abbrev pub position_charted : Result Chart GraphFault → Position
-position_charted (Ok chart) = board (chart_rules chart) (chart_start chart)
-position_charted (Err fault) = faulty (by.Graph fault)
+abbrev pub position_coloured : Result ColouredGraph GraphFault → Position
+position_coloured (Ok coloured_graph) = board (coloured_graph_rules coloured_graph) (coloured_graph_start coloured_graph)
+position_coloured (Err fault) = faulty (by.Graph fault)
 
 -- ---- all games
 
@@ -97,8 +97,8 @@ position_of Amazons rules text = position_by amazons (read_of (codes ".xo#") fal
 position_of Toads rules text = position_by toads_game (read_of (codes ".TF") true text)
 position_of Strip rules text = strip_position rules text
 position_of Hackenbush rules text = position_drawn (drawing_read rules)
-position_of Col rules text = position_charted (chart_read false text rules)
-position_of Snort rules text = position_charted (chart_read true text rules)
+position_of Col rules text = position_coloured (coloured_graph_read false text rules)
+position_of Snort rules text = position_coloured (coloured_graph_read true text rules)
 
 -- the tree of all moves from the board. A question that has what is no board is refused, whatever that means: here 0
 abbrev pub position_form : Position → Game

@@ -8,7 +8,7 @@ use Rattle.cg_nodes.specs.Can.{can}
 use Rattle.cg_domineering.specs.Moves.{domineering}
 use Rattle.cg_clobber.specs.Moves.{clobber}
 use Rattle.cg_amazons.specs.Amazons.{amazons}
-use Rattle.cg_graph.specs.Charts.{chart_rules}
+use Rattle.cg_graph.specs.ColouredGraphs.{coloured_graph_rules}
 use Rattle.cg_graph.specs.Drawings.{drawing_rules}
 use Rattle.cg_strip.specs.Toads.{toads_game}
 use Rattle.cg_strip.specs.StripGame.{strip_game}
@@ -59,7 +59,7 @@ set_up (boards.Amazons p) = board amazons p
 set_up (boards.Toads p) = board toads_game p
 set_up (boards.Strip book p) = board (strip_game book) p
 set_up (boards.Hackenbush drawing p) = board (drawing_rules drawing) p
-set_up (boards.Colouring chart p) = board (chart_rules chart) p
+set_up (boards.Colouring coloured_graph p) = board (coloured_graph_rules coloured_graph) p
 
 -- it is a board of its game
 abbrev pub IsSound : Position → Type 0

@@ -4,10 +4,10 @@ ghost use Rattle.cg_moves.specs.Texts.{read_of};
 ghost use Rattle.cg_domineering.specs.Moves.{domineering};
 ghost use Rattle.cg_clobber.specs.Moves.{clobber};
 ghost use Rattle.cg_amazons.specs.Amazons.{amazons};
-ghost use Rattle.cg_graph.specs.Charts.{chart_read};
+ghost use Rattle.cg_graph.specs.ColouredGraphs.{coloured_graph_read};
 ghost use Rattle.cg_graph.specs.Drawings.{drawing_read};
 ghost use Rattle.cg_strip.specs.Toads.{toads_game};
-ghost use Rattle.cg_eval.specs.Boards.{position_by, position_charted, position_drawn};
+ghost use Rattle.cg_eval.specs.Boards.{position_by, position_coloured, position_drawn};
 ghost use Rattle.cg_eval.specs.Boards.{position_fault, position_of, strip_position};
 ghost use Rattle.cg_eval.specs.Parts.{IsFaultOf, IsFaulty, set_up};
 
@@ -118,15 +118,15 @@ fn colouring_board(
     vertices: &[u8],
     edges: &[u8],
 ) -> Result<GameBoard, GameFault>
-    ensures read { IfOk result (λ b. position_charted (chart_read snort vertices.now edges.now) ≡ set_up b) }
-    ensures refused { IfErr result (IsFaulty (position_charted (chart_read snort vertices.now edges.now))) }
+    ensures read { IfOk result (λ b. position_coloured (coloured_graph_read snort vertices.now edges.now) ≡ set_up b) }
+    ensures refused { IfErr result (IsFaulty (position_coloured (coloured_graph_read snort vertices.now edges.now))) }
 {
-    let chart = match Colouring::read(alloc, snort, vertices, edges) {
-        Ok(chart) => chart,
+    let coloured_graph = match Colouring::read(alloc, snort, vertices, edges) {
+        Ok(coloured_graph) => coloured_graph,
         Err(fault) => return Err(GameFault::Graph(fault)),
     };
-    match chart.board(alloc) {
-        Ok(board) => Ok(GameBoard::Colouring(chart, board)),
+    match coloured_graph.board(alloc) {
+        Ok(board) => Ok(GameBoard::Colouring(coloured_graph, board)),
         Err(_) => Err(GameFault::Graph(GraphFault::Memory)),
     }
 }

@@ -59,7 +59,7 @@ fn value_in<S: CellStore<GameFacts<CgBoards>>>(
         GameBoard::Toads(board) => value_by(alloc, work, &Toads, board),
         GameBoard::Strip(strip, board) => value_by(alloc, work, strip, board),
         GameBoard::Hackenbush(drawing, board) => value_by(alloc, work, drawing, board),
-        GameBoard::Colouring(chart, board) => value_by(alloc, work, chart, board),
+        GameBoard::Colouring(coloured_graph, board) => value_by(alloc, work, coloured_graph, board),
     }
 }
 

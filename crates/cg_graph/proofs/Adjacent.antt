@@ -10,7 +10,7 @@ use Rattle.cg_moves.proofs.Counted.{counted-next, in_counted}
 use Rattle.cg_moves.proofs.Same.{both-true}
 use Rattle.cg_moves.specs.Rising.{counted}
 use Rattle.cg_moves.specs.Rules.{In}
-use Rattle.cg_graph.specs.Charts.{edges_of, is_between}
+use Rattle.cg_graph.specs.ColouredGraphs.{edges_of, is_between}
 use Rattle.cg_graph.specs.Colouring.{are_adjacent}
 use Rattle.cg_graph.specs.declared.edge.Pair.{Pair}
 

@@ -11,7 +11,7 @@ pub mod Adjacent
 pub mod Symbols
 pub mod Taken
 pub mod DrawingReadings
-pub mod ChartReadings
-pub mod ChartSound
+pub mod ColouredReadings
+pub mod ColouredSound
 pub mod Starts
 pub mod ColouringMoves

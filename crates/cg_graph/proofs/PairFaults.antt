@@ -8,7 +8,7 @@ use Rattle.std.proofs.lemmas.List.{at_drop_all}
 use Rattle.std.proofs.lemmas.List.Elements.{All-cons}
 use Rattle.cg_reading.specs.Bytes.{has}
 use Rattle.cg_moves.proofs.FirstPlaces.{First, first_or, first_same, or_none}
-use Rattle.cg_graph.specs.Charts.{IsAmiss, IsBroken, IsPair, first_none, named, pair_fault, pair_of, pairs_fault, pairs_of, repeated, second_none}
+use Rattle.cg_graph.specs.ColouredGraphs.{IsAmiss, IsBroken, IsPair, first_none, named, pair_fault, pair_of, pairs_fault, pairs_of, repeated, second_none}
 use Rattle.cg_graph.specs.Grammar.{letter}
 use Rattle.cg_graph.specs.Items.{IsLettered}
 use Rattle.cg_graph.specs.declared.items.PairItem.{PairItem}

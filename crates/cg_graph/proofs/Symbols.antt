@@ -10,7 +10,7 @@ use Rattle.cg_moves.specs.Grid.{AreCells, Grid}
 use Rattle.cg_moves.specs.Texts.{is_foreign}
 use Rattle.cg_moves.proofs.Same.{bytes_eq-back}
 use Rattle.cg_moves.proofs.TextLemmas.{cells-symbols}
-use Rattle.cg_graph.specs.Charts.{Chart, chart_rules}
+use Rattle.cg_graph.specs.ColouredGraphs.{ColouredGraph, coloured_graph_rules}
 use Rattle.cg_graph.specs.Colouring.{own}
 use Rattle.cg_graph.specs.Drawings.{IsEdge, colours_of, drawing_rules, graph_of}
 use Rattle.cg_graph.specs.Grammar.{colour}
@@ -55,10 +55,10 @@ own-contained : (player : Player) → Contains (codes ".xo") (own player)
 own-contained Left = (1, omega arith, refl)
 own-contained Right = (2, omega arith, refl)
 
-pub has-own : (chart : Chart) (player : Player) (p : Grid) → (chart_rules chart).has p ≡ true → Contains p.symbols (own player)
-has-own chart player p has =
+pub has-own : (coloured_graph : ColouredGraph) (player : Player) (p : Grid) → (coloured_graph_rules coloured_graph).has p ≡ true → Contains p.symbols (own player)
+has-own coloured_graph player p has =
     let same = bytes_eq-back p.symbols (codes ".xo")
-    (and-split (bytes_eq p.symbols (codes ".xo")) (length p.cells == length chart.vertices) has).0 in
+    (and-split (bytes_eq p.symbols (codes ".xo")) (length p.cells == length coloured_graph.vertices) has).0 in
     rw same (own-contained player)
 
 pub vertices_cells : (vertices cells : List ℕ) → cells ≡ vertices → position (is_foreign true (codes ".xo")) vertices ≡ None

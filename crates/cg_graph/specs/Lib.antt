@@ -5,7 +5,7 @@ pub mod Colouring
 pub mod Grammar
 pub mod Reading
 pub mod Drawings
-pub mod Charts
+pub mod ColouredGraphs
 pub mod Worked
 -- what private contracts cite
 pub mod Labels

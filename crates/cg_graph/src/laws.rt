@@ -10,7 +10,7 @@ ghost use Rattle.cg_moves.specs.Raw.{raw};
 ghost use Rattle.cg_moves.specs.Rising.{IsRising};
 ghost use Rattle.cg_moves.specs.Lawful.{IsLawful};
 ghost use Rattle.cg_moves.specs.Rules.{In, boards_after};
-ghost use Rattle.cg_graph.specs.Charts.{Chart, IsChartedAs, IsNotCharted, chart_read};
+ghost use Rattle.cg_graph.specs.ColouredGraphs.{ColouredGraph, IsColouredGraphOf, IsNoColouredGraph, coloured_graph_read};
 ghost use Rattle.cg_graph.specs.Drawings.{IsDrawnAs, IsNotDrawn, colours_of, drawing_read, drawing_start, graph_of};
 ghost use Rattle.cg_graph.specs.Hackenbush.{IsCutMove, IsRedBlue, cuts_of, green, hackenbush};
 ghost use Rattle.cg_graph.specs.declared.edge.ColouredEdge.{ColouredEdge};
@@ -75,11 +75,11 @@ pub fn drawings()
 
 /// What two texts are read as, computed: a position of Col or Snort exactly where they are one, and a fault exactly where
 /// they are refused so.
-pub fn charts()
-    ensures charted { (snort : Bool) (vertices edges : List ℕ) (chart : Chart)
-        → (chart_read snort vertices edges ≡ Ok chart) ↔ IsChartedAs snort vertices edges chart }
+pub fn coloured_graphs()
+    ensures coloured { (snort : Bool) (vertices edges : List ℕ) (coloured_graph : ColouredGraph)
+        → (coloured_graph_read snort vertices edges ≡ Ok coloured_graph) ↔ IsColouredGraphOf snort vertices edges coloured_graph }
     ensures refused { (snort : Bool) (vertices edges : List ℕ) (fault : GraphFault) → fault ≢ GraphFault.Memory
-        → (chart_read snort vertices edges ≡ Err fault) ↔ IsNotCharted vertices edges fault }
+        → (coloured_graph_read snort vertices edges ≡ Err fault) ↔ IsNoColouredGraph vertices edges fault }
 {}
 
 /// The rules of Hackenbush, and those of Col and Snort, meet the law of rules.

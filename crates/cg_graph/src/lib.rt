@@ -1,9 +1,9 @@
 //! Games on graphs: Hackenbush, Col and Snort.
 #![tactic(auto)]
 
-mod chart;
-mod chart_faults;
-mod chart_moves;
+mod coloured_graph;
+mod coloured_graph_faults;
+mod coloured_graph_moves;
 mod drawing;
 mod drawing_moves;
 mod edge;
@@ -14,7 +14,7 @@ pub mod laws;
 mod neighbours;
 mod reading;
 
-pub use chart::Colouring;
+pub use coloured_graph::Colouring;
 pub use drawing::Hackenbush;
 pub use edge::{ColouredEdge, Pair};
 pub use fault::GraphFault;

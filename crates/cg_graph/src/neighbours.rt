@@ -2,7 +2,7 @@
 ghost use Rattle.std.specs.Prelude.{◌≡◌, ◌==◌, ◌&&◌, length, slice_index};
 ghost use Rattle.std.specs.List.{list_any};
 ghost use Rattle.cg_moves.specs.Rising.{counted};
-ghost use Rattle.cg_graph.specs.Charts.{edges_of, is_between};
+ghost use Rattle.cg_graph.specs.ColouredGraphs.{edges_of, is_between};
 ghost use Rattle.cg_graph.specs.Colouring.{are_adjacent};
 
 use crate::edge::Pair;

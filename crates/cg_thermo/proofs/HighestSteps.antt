@@ -15,11 +15,11 @@ use Rattle.cg_form.specs.Simple.{Decides, NoNumber}
 use Rattle.cg_form.specs.Walls.{greatest, least, walls}
 use Rattle.cg_walls.specs.declared.rise.Rise.{Rise}
 use Rattle.cg_walls.specs.Rises.{IsWall, value_at}
-use Rattle.cg_thermo.specs.declared.chart.Chart.{Chart}
-use Rattle.cg_thermo.specs.Progress.{AreCharts}
+use Rattle.cg_thermo.specs.declared.wall_pair.WallPair.{WallPair}
+use Rattle.cg_thermo.specs.Progress.{AreWallPairs}
 use Rattle.cg_thermo.specs.Smooths.{Smooth}
 use Rattle.cg_thermo.specs.HighestWalls.{IsHighestWall, side_value}
-use Rattle.cg_thermo.proofs.ChartSteps.{chart_there}
+use Rattle.cg_thermo.proofs.WallPairSteps.{wall_pair_there}
 use Rattle.cg_thermo.proofs.Drawing.{HighestWalls}
 
 -- ---- one game more
@@ -73,9 +73,9 @@ read-behind xs ys x i h e read =
 pub all_read : (xs : List ℕ) (i x n : ℕ) → All (λ p. p < n) xs → i < length xs → x ≡ get_or xs i x → x < n
 all_read xs i x n all l e = rw e (all i x l)
 
--- ---- the sides of a chart
+-- ---- the sides of a wall_pair
 
--- ---- both sides of a game whose options have charts
+-- ---- both sides of a game whose options have wall_pairs
 
 greatest_turned : (f : Game → ℤ) (gs : List Game) → greatest (map (λ a. neg_ℤ (f a)) gs) ≡ neg_ℤ (least (map f gs))
 greatest_turned f [] = refl
@@ -90,16 +90,16 @@ pub canonical-node : (g : Game) → Canonical g → IsNode g → NoNumber g
 canonical-node (number x) c n = absurd n
 canonical-node (options ls rs) c n = c.0.no_number
 
-smooth_options : (fs : List Game) (cs : List Chart) (ps : List ℕ) → AreCharts fs cs → All (λ p. p < length cs) ps
+smooth_options : (fs : List Game) (cs : List WallPair) (ps : List ℕ) → AreWallPairs fs cs → All (λ p. p < length cs) ps
     → (a : Game) → Among a (games_of fs ps) → Smooth places a
 smooth_options fs cs ps h within a m =
     let (p, k, e) = member_of fs ps a m in
     let l : p < length cs = (rw (← k.2) (within k.0 p k.1)) in
-    let (c, is) = chart_there cs p l in
+    let (c, is) = wall_pair_there cs p l in
     rw e (h.each p c l is).smooth
 
-pub highest_of : (fs : List Game) (cs : List Chart) (g : Game) (ls rs : List ℕ) (p q : Rise) → Canonical g → IsNode g
-    → lefts g ≡ games_of fs ls → rights g ≡ games_of fs rs → AreCharts fs cs
+pub highest_of : (fs : List Game) (cs : List WallPair) (g : Game) (ls rs : List ℕ) (p q : Rise) → Canonical g → IsNode g
+    → lefts g ≡ games_of fs ls → rights g ≡ games_of fs rs → AreWallPairs fs cs
     → All (λ p. p < length cs) ls → All (λ p. p < length cs) rs → IsWall p → IsWall q
     → IsHighestWall true (games_of fs ls) p → IsHighestWall false (games_of fs rs) q → HighestWalls places g p q
 highest_of fs cs g ls rs p q can n l r h bl br wp wq tp tq =

@@ -3,7 +3,7 @@ pub mod Scales
 pub mod Deciders
 pub mod Upward
 pub mod Drawing
-pub mod ChartSteps
+pub mod WallPairSteps
 pub mod HighestSteps
 pub mod Roughs
 pub mod Picturing

@@ -1,4 +1,4 @@
--- What is drawn of a chart is the thermograph.
+-- What is drawn of a wall_pair is the thermograph.
 use Rattle.std.proofs.Common.{◌≡◌, refl, ℕ, ◌<◌, ◌≤◌, arith, zero, suc, ◌⊎◌, inl, inr, ap, sym, ◌∙◌, Bool, true, false, cond, List, [], ◌∷◌, map, length, get_or, unsigned_abs, ◌^◌, ℤ, pos, negsuc, neg_ℤ, ◌-ℤ◌, ◌≤ℤ◌}
 use Rattle.std.proofs.lemmas.Int.{ints}
 use Rattle.std.proofs.lemmas.Bool.Decides.{Decides-int_eq, Decides-like, same_from_decides}
@@ -33,12 +33,12 @@ use Rattle.cg_walls.proofs.Rising.{near}
 use Rattle.cg_walls.proofs.Words.{word}
 use Rattle.cg_nodes.specs.Games.{IsNode}
 use Rattle.cg_form.specs.Positions.{positions_of}
-use Rattle.cg_thermo.specs.declared.chart.Chart.{Chart}
+use Rattle.cg_thermo.specs.declared.wall_pair.WallPair.{WallPair}
 use Rattle.cg_thermo.specs.declared.corners.Corner.{Corner}
 use Rattle.cg_thermo.specs.declared.thermo.Walls as drawn
 use Rattle.cg_thermo.specs.Draws.{Draws}
 use Rattle.cg_thermo.specs.Pictures.{left_corners, right_corners, spot}
-use Rattle.cg_thermo.specs.Progress.{Charted}
+use Rattle.cg_thermo.specs.Progress.{HasWallPair}
 use Rattle.cg_thermo.specs.Signed.{Pictured, corner_at}
 use Rattle.cg_thermo.specs.Smooths.{Smooth, smooth_number, smooth_other}
 use Rattle.cg_thermo.specs.Thermal.{NeedsMore}
@@ -123,14 +123,14 @@ straight-negated f h e t =
 neg_back : (v h : ℤ) → v ≡ neg_ℤ h → neg_ℤ v ≡ h
 neg_back v h e = omega (arith, ints)
 
-left-corners : (g : Game) (c : Chart) → Draws g c → map (corner_at true) (corners (value_at c.left) c.end) ≡ left_corners number-decide places g c.end
+left-corners : (g : Game) (c : WallPair) → Draws g c → map (corner_at true) (corners (value_at c.left) c.end) ≡ left_corners number-decide places g c.end
 unfolding left_corners
 left-corners g c d = map-corners (corner_at true) (spot places) (value_at c.left) (λ t. (walls number-decide places t g).left)
     (λ t. ap (λ z. let x : Corner = record { value = ratio z places; at = ratio (pos t) places } in x)
     (neg_back (value_at c.left t) (walls number-decide places t g).left (d.left number-decide t)))
     (straight-negated (value_at c.left) (λ t. (walls number-decide places t g).left) (d.left number-decide)) c.end
 
-right-corners : (g : Game) (c : Chart) → Draws g c → map (corner_at false) (corners (value_at c.right) c.end) ≡ right_corners number-decide places g c.end
+right-corners : (g : Game) (c : WallPair) → Draws g c → map (corner_at false) (corners (value_at c.right) c.end) ≡ right_corners number-decide places g c.end
 unfolding right_corners
 right-corners g c d = map-corners (corner_at false) (spot places) (value_at c.right) (λ t. (walls number-decide places t g).right)
     (λ t. ap (λ z. let x : Corner = record { value = ratio z places; at = ratio (pos t) places } in x) (d.right number-decide t))
@@ -142,7 +142,7 @@ smooth-places : (s : ℕ) (g : Game) (x : Number) → Smooth s g → Equal (numb
 smooth-places s _ x (smooth_number g y e h) f = let i = ap exp_of (one_number x y g f e) in omega arith
 smooth-places s _ x (smooth_other g never c l r) f = absurd (never x f)
 
-end-value : (g : Game) (c : Chart) → Draws g c → NoNumber g
+end-value : (g : Game) (c : WallPair) → Draws g c → NoNumber g
     → value_at c.right c.end ≡ (scaffold_of number-decide places g c.end).left
 end-value g c d never =
     let t = (d.mast number-decide).other never in
@@ -155,7 +155,7 @@ record Temps (g : Game) (end : ℕ) (temp : Number) : Type 0 where
   number : (x : Number) → g ≡ number x → temp ≡ ratio (negsuc 0) (exp_of x)
   other : IsNode g → temp ≡ ratio (pos end) places
 
-thermal_by : (g : Game) (c : Chart) (mean temp : Number) → Decided g → Charted g c → Canonical g → mean ≡ ratio (value_at c.right c.end) places
+thermal_by : (g : Game) (c : WallPair) (mean temp : Number) → Decided g → HasWallPair g c → Canonical g → mean ≡ ratio (value_at c.right c.end) places
     → Temps g c.end temp → IsThermal g mean temp
 thermal_by (number y) c mean temp d k can m t =
     let e = equal_refl (number y) in
@@ -170,7 +170,7 @@ thermal_by (options ls rs) c mean temp d k can m t =
     let i = thermal-none places (options ls rs) c.end never k.smooth ((k.draws.mast number-decide).other never) in
     rw (m ∙ ap (λ n. ratio n places) (end-value (options ls rs) c k.draws never)) (rw (t.other tt) i)
 
-pub is_thermograph : (g : Game) (c : Chart) (w : drawn.Walls) (temp : Number) → Charted g c → Canonical g → Pictured c w → w.temp ≡ temp
+pub is_thermograph : (g : Game) (c : WallPair) (w : drawn.Walls) (temp : Number) → HasWallPair g c → Canonical g → Pictured c w → w.temp ≡ temp
     → ((x : Number) → g ≡ number x → temp ≡ ratio (negsuc 0) (exp_of x)) → (IsNode g → temp ≡ ratio (pos c.end) places) → IsThermograph g w
 is_thermograph g c w temp k can p e num oth = record {
   thermal = thermal_by g c w.mean w.temp (number-decide g) k can p.mean (record { number = λ x f. e ∙ num x f; other = λ n. e ∙ oth n });
@@ -184,7 +184,7 @@ is_thermograph g c w temp k can p e num oth = record {
 
 -- ---- no position needs more places
 
-enough_by : (g : Game) (c : Chart) (mean temp : Number) → Decided g → Charted g c → IsThermal g mean temp
+enough_by : (g : Game) (c : WallPair) (mean temp : Number) → Decided g → HasWallPair g c → IsThermal g mean temp
     → (places < exp_of mean) ⊎ (places < exp_of temp) → ⊥
 enough_by g c mean temp (inl w) k t more =
     let x = t.number w.0 w.1 in
@@ -202,6 +202,6 @@ enough_by g c mean temp (inr never) k t more =
     let q = exp-ratio (pos c.end) places in
     elim more [ inl j ↦ omega arith | inr j ↦ omega arith ]
 
-pub enough_places : (g : Game) → ((p : Game) → Among p (positions_of g) → (c : Chart) × Charted p c) → ¬ NeedsMore places g
+pub enough_places : (g : Game) → ((p : Game) → Among p (positions_of g) → (c : WallPair) × HasWallPair p c) → ¬ NeedsMore places g
 enough_places g all n = let (c, k) = all n.position n.among in
     enough_by n.position c n.mean n.temp (number-decide n.position) k n.thermal n.more

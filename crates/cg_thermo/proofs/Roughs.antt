@@ -21,10 +21,10 @@ use Rattle.cg_walls.proofs.Words.{word}
 use Rattle.cg_walls.specs.declared.TheConstants.{BOUND, END}
 use Rattle.cg_walls.specs.declared.rise.Rise.{Rise}
 use Rattle.cg_walls.specs.Rises.{IsWall, gap, value_at}
-use Rattle.cg_thermo.specs.declared.chart.Chart.{Chart}
+use Rattle.cg_thermo.specs.declared.wall_pair.WallPair.{WallPair}
 use Rattle.cg_thermo.specs.declared.fault.ThermoFault.{ThermoFault}
 use Rattle.cg_thermo.specs.Joins.{Joins, Jumps}
-use Rattle.cg_thermo.specs.Progress.{Charted, Rough}
+use Rattle.cg_thermo.specs.Progress.{HasWallPair, Rough}
 use Rattle.cg_thermo.specs.Smooths.{Smooth, smooth_number, smooth_other}
 use Rattle.cg_thermo.proofs.Drawing.{HighestWalls, gap-scaffold, meets-left, meets-mast, meets-right, meets-smooth}
 use Rattle.cg_thermo.proofs.Smooth.{cool-next, scaffolds_finer, smooth-finer, smooth-start, smooth-up}
@@ -78,8 +78,8 @@ jump-rough g p q k j =
       more = (let x = exp-odd j.at places in omega arith);
     }
 
-pub joins-charted : (g : Game) (p q : Rise) (c : Chart) → HighestWalls places g p q → Joins p q c → Charted g c
-joins-charted g p q c k j = record {
+pub joins-walls_paired : (g : Game) (p q : Rise) (c : WallPair) → HighestWalls places g p q → Joins p q c → HasWallPair g c
+joins-walls_paired g p q c k j = record {
   smooth = meets-smooth places g p q c.end k j.meets;
   draws = record {
     left_wall = j.left_wall;
@@ -91,9 +91,9 @@ joins-charted g p q c k j = record {
   };
 }
 
-pub joined-charted : (g : Game) (p q : Rise) (r : Result Chart ThermoFault) → HighestWalls places g p q → IfOk r (Joins p q) → IfOk r (Charted g)
-joined-charted g p q (Ok c) k j = joins-charted g p q c k j
-joined-charted g p q (Err e) k j = tt
+pub joined-walls_paired : (g : Game) (p q : Rise) (r : Result WallPair ThermoFault) → HighestWalls places g p q → IfOk r (Joins p q) → IfOk r (HasWallPair g)
+joined-walls_paired g p q (Ok c) k j = joins-walls_paired g p q c k j
+joined-walls_paired g p q (Err e) k j = tt
 
 -- ---- numbers
 
@@ -106,9 +106,9 @@ bounds_of x u e r =
     let b = a.0 in let c = a.1 in
     (b, c, omega (arith, ints), omega (arith, ints))
 
-pub number-charted : (x : Number) (u : ℤ) (c : Chart) → InRange x → u ≡ units places x → c.end ≡ 0 → IsWall c.left → IsWall c.right
-    → ((t : ℕ) → value_at c.left t ≡ pos 0 -ℤ u) → ((t : ℕ) → value_at c.right t ≡ u) → Charted (number x) c
-number-charted x u c r e z wl wr l v = record {
+pub number-walls_paired : (x : Number) (u : ℤ) (c : WallPair) → InRange x → u ≡ units places x → c.end ≡ 0 → IsWall c.left → IsWall c.right
+    → ((t : ℕ) → value_at c.left t ≡ pos 0 -ℤ u) → ((t : ℕ) → value_at c.right t ≡ u) → HasWallPair (number x) c
+number-walls_paired x u c r e z wl wr l v = record {
   smooth = smooth_number (number x) x (equal_refl (number x)) (places-enough x r);
   draws = record {
     left_wall = wl;

@@ -1,7 +1,7 @@
 -- The stops of a game stand where its cuts of the numbers do.
 use Rattle.std.proofs.Common.{◌≡◌, ap, not, ◌∙◌, Bool, true, false}
-use Rattle.cg_arena.specs.Profiles.{HasCuts}
-use Rattle.cg_arena.specs.declared.profile.Profile.{Profile}
+use Rattle.cg_arena.specs.Summaries.{HasCuts}
+use Rattle.cg_arena.specs.declared.summary.Summary.{Summary}
 use Rattle.cg_dyadic.specs.declared.cut.Cut.{Cut}
 use Rattle.cg_dyadic.specs.Cut.{number_at_most, within_cut}
 use Rattle.cg_dyadic.specs.Number.{Number}
@@ -35,7 +35,7 @@ high_stop g c k = record {
   low = λ x h l. differ _ l (k.tells x tt ∙ above_cut false c.at x c.closed h (less-le c.at x h));
 }
 
-pub stops_of_cuts : (g : Game) (p : Profile) → HasCuts g p → StopsAre g (record { left = p.high.at; right = p.low.at })
+pub stops_of_cuts : (g : Game) (p : Summary) → HasCuts g p → StopsAre g (record { left = p.high.at; right = p.low.at })
 stops_of_cuts g p h = record {
   left = λ d. equal-left_stop g g p.high.at _ (high_stop g p.high h.high) (stops-are d g).left (equal_refl g);
   right = λ d. equal-right_stop g g p.low.at _ (low_stop g p.low h.low) (stops-are d g).right (equal_refl g);

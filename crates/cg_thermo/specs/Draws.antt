@@ -7,10 +7,10 @@ use Rattle.cg_form.specs.Walls.{walls}
 use Rattle.cg_walls.specs.declared.TheConstants.{END}
 use Rattle.cg_walls.specs.Rises.{IsWall, value_at}
 use Rattle.cg_thermo.specs.Thermal.{MastFrom}
-use Rattle.cg_thermo.specs.declared.chart.Chart.{Chart}
+use Rattle.cg_thermo.specs.declared.wall_pair.WallPair.{WallPair}
 
 -- the negative of the left wall, and the right wall, which both rise, and where the mast begins
-pub record Draws (g : Game) (c : Chart) : Type 0 where
+pub record Draws (g : Game) (c : WallPair) : Type 0 where
   pub left_wall : IsWall c.left
   pub right_wall : IsWall c.right
   pub left : (d : Decides) (t : ℕ) → value_at c.left t ≡ neg_ℤ (walls d places t g).left

@@ -1,4 +1,4 @@
--- How far the charts of the positions of a game have come.
+-- How far the wall_pairs of the positions of a game have come.
 use Rattle.std.specs.Prelude.{◌≡◌, ℕ, ◌<◌, List, get_or, length}
 use Rattle.cg_arena.specs.Arena.{game_of, games_of}
 use Rattle.cg_canon.specs.Walk.{indexes_of}
@@ -7,7 +7,7 @@ use Rattle.cg_dyadic.specs.Number.{Number, exp_of}
 use Rattle.cg_dyadic.specs.Wide.{places}
 use Rattle.cg_form.specs.Game.{Among, Game}
 use Rattle.cg_form.specs.Walls.{IsThermal}
-use Rattle.cg_thermo.specs.declared.chart.Chart.{Chart}
+use Rattle.cg_thermo.specs.declared.wall_pair.WallPair.{WallPair}
 use Rattle.cg_thermo.specs.Draws.{Draws}
 use Rattle.cg_thermo.specs.Smooths.{Smooth}
 
@@ -15,14 +15,14 @@ use Rattle.cg_thermo.specs.Smooths.{Smooth}
 abbrev pub walked : List Game → Walk → List Game
 walked gs w = games_of gs (indexes_of w.positions.items)
 
--- the chart is that of the game, whose temperatures need no more places
-pub record Charted (g : Game) (c : Chart) : Type 0 where
+-- the wall_pair is that of the game, whose temperatures need no more places
+pub record HasWallPair (g : Game) (c : WallPair) : Type 0 where
   pub smooth : Smooth places g
   pub draws : Draws g c
 
--- the charts are those of the first games
-pub record AreCharts (games : List Game) (charts : List Chart) : Type 0 where
-  pub each : (i : ℕ) (c : Chart) → i < length charts → c ≡ get_or charts i c → Charted (game_of games i) c
+-- the wall_pairs are those of the first games
+pub record AreWallPairs (games : List Game) (wall_pairs : List WallPair) : Type 0 where
+  pub each : (i : ℕ) (c : WallPair) → i < length wall_pairs → c ≡ get_or wall_pairs i c → HasWallPair (game_of games i) c
 
 -- the temperature of the game needs more places
 pub record Rough (g : Game) : Type 0 where

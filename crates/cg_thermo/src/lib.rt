@@ -4,8 +4,6 @@
 //! numbers of units of 1/2^60.
 #![tactic(auto)]
 
-mod chart;
-mod charting;
 mod corners;
 mod deciding;
 mod ending;
@@ -13,9 +11,11 @@ mod fault;
 mod highest_walls;
 mod joining;
 pub mod laws;
+mod pairing_walls;
 mod reading;
 mod stopping;
 mod thermo;
+mod wall_pair;
 mod winner;
 
 pub use corners::{Corner, Corners};

@@ -25,9 +25,9 @@ pub fn stops<B: BoardForms, S: CellStore<GameFacts<B>>>(
     ensures spends { Spends 0 (work_state S.state work.old) (work_state S.state work.new) }
 {
     let index = work.index(alloc, a)?;
-    let profile = work.profile_at(index);
+    let summary = work.summary_at(index);
     Ok(Stops {
-        left: profile.high.at,
-        right: profile.low.at,
+        left: summary.high.at,
+        right: summary.low.at,
     })
 }

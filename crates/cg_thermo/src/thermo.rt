@@ -16,10 +16,10 @@ ghost use Rattle.cg_thermo.specs.Signed.{Pictured};
 ghost use Rattle.cg_thermo.specs.Thermal.{NeedsMore};
 ghost use Rattle.cg_thermo.specs.Thermographs.{DrawsWalls, IsThermograph};
 
-use crate::chart::Chart;
-use crate::charting::charts_of;
 use crate::corners::{Corners, corners_of};
 use crate::fault::ThermoFault;
+use crate::pairing_walls::wall_pairs_of;
+use crate::wall_pair::WallPair;
 use cg_canon::{Read, Walk, Work};
 use cg_cells::CellStore;
 use cg_dyadic::{Dyadic, Wide};
@@ -67,17 +67,17 @@ fn temperature<B: BoardForms, S: CellStore<GameFacts<B>>>(
     }
 }
 
-// What is drawn of the chart.
-fn pictured(alloc: Global, chart: &Chart, temp: Wide) -> Result<Walls, AllocError>
-    requires left { IsWall chart.now.left }
-    requires right { IsWall chart.now.right }
-    requires soon { chart.now.end < END }
-    ensures picture { IfOk result (Pictured chart.now) }
+// What is drawn of the wall_pair.
+fn pictured(alloc: Global, wall_pair: &WallPair, temp: Wide) -> Result<Walls, AllocError>
+    requires left { IsWall wall_pair.now.left }
+    requires right { IsWall wall_pair.now.right }
+    requires soon { wall_pair.now.end < END }
+    ensures picture { IfOk result (Pictured wall_pair.now) }
     ensures temp { IfOk result (λ w. w.temp ≡ temp) }
 {
-    let mean = Wide::of_units(value(&chart.right, chart.end));
-    let lefts = points(alloc, &chart.left, chart.end)?;
-    let rights = points(alloc, &chart.right, chart.end)?;
+    let mean = Wide::of_units(value(&wall_pair.right, wall_pair.end));
+    let lefts = points(alloc, &wall_pair.left, wall_pair.end)?;
+    let rights = points(alloc, &wall_pair.right, wall_pair.end)?;
     let left = corners_of(alloc, lefts.as_slice(), true)?;
     let right = corners_of(alloc, rights.as_slice(), false)?;
     Ok(Walls {
@@ -124,8 +124,8 @@ pub fn thermograph<B: BoardForms, S: CellStore<GameFacts<B>>>(
     known_game(work, a);
     let index = work.index(alloc, a)?;
     let walk = each_position(alloc, work, index)?;
-    let charts = charts_of(alloc, work, &walk)?;
-    let chart = &charts[charts.len() - 1];
-    let temp = temperature(work, index, chart.end);
-    Ok(pictured(alloc, chart, temp)?)
+    let wall_pairs = wall_pairs_of(alloc, work, &walk)?;
+    let wall_pair = &wall_pairs[wall_pairs.len() - 1];
+    let temp = temperature(work, index, wall_pair.end);
+    Ok(pictured(alloc, wall_pair, temp)?)
 }

@@ -1,9 +1,9 @@
 use Rattle.cg_arena.specs.Arena.{games_of}
-use Rattle.cg_arena.proofs.Outlines.{nothing_case, number_case}
+use Rattle.cg_arena.proofs.LeaderSteps.{nothing_case, number_case}
 use Rattle.cg_arena.proofs.canonicalizing.canonicalize.Goals as goal
 
-pub profile_between-profile-requires-clause-no_number : goal.profile_between-profile-requires-clause-no_number
-profile_between-profile-requires-clause-no_number c =
+pub summary_between-summary-requires-clause-no_number : goal.summary_between-summary-requires-clause-no_number
+summary_between-summary-requires-clause-no_number c =
     nothing_case (games_of c.args.arena.now c.args.lefts.now) (games_of c.args.arena.now c.args.rights.now) c.cut_of-low.result c.cut_of-high.result
     c.cut_of-low.ensures c.cut_of-high.ensures c.in-Nothing.ensures
 
@@ -13,7 +13,7 @@ form_of-requires-clause-no_number c =
     c.cut_of-low.ensures c.cut_of-high.ensures c.in-Nothing.ensures
 
 pub form_of-requires-clause-cuts : goal.form_of-requires-clause-cuts
-form_of-requires-clause-cuts c = c.profile_between-profile.ensures.cuts
+form_of-requires-clause-cuts c = c.summary_between-summary.ensures.cuts
 
 pub returns-in-Number-clause-canonicalized : goal.returns-in-Number-clause-canonicalized
 returns-in-Number-clause-canonicalized c =

@@ -3,8 +3,8 @@ use Rattle.cg_canon.proofs.InternerSteps.{known_index}
 use Rattle.cg_canon.proofs.Turning.{has_options, indexed_more, indexed_none}
 use Rattle.cg_canon.proofs.indexing.+index.Goals as goal
 
-pub new_index-profile_of_lists-profile-requires-clause-no_number : goal.new_index-profile_of_lists-profile-requires-clause-no_number
-new_index-profile_of_lists-profile-requires-clause-no_number g t c =
+pub new_index-summary_of_lists-summary-requires-clause-no_number : goal.new_index-summary_of_lists-summary-requires-clause-no_number
+new_index-summary_of_lists-summary-requires-clause-no_number g t c =
     let W = g.S.CellStore.state in
     (has_options (W c.args.store.now) (W c.read.new.store) (W c.indexes_of_list.new.store) (W c.indexes_of_list-in-Game.new.store) c.args.handle
     c.in-Game.lefts c.in-Game.rights c.indexes_of_list.new.interner.arena c.indexes_of_list-in-Game.new.interner.arena
@@ -23,8 +23,8 @@ new_index-enter_game-requires-clause-is g t c =
     c.in-Game.ensures.game.1 c.in-Game.ensures.game.2 c.read.ensures.canonical c.in_ok-low-in-Game.ensures.indexes
     c.indexes_of_list-in-Game.ensures.begins c.in_ok-high-in-Game.ensures.indexes c.as_slice-in-Game-2.ensures c.as_slice-in-Game-3.ensures).is
 
-pub new_index-enter_game-requires-clause-profile : goal.new_index-enter_game-requires-clause-profile
-new_index-enter_game-requires-clause-profile g t c =
+pub new_index-enter_game-requires-clause-summary : goal.new_index-enter_game-requires-clause-summary
+new_index-enter_game-requires-clause-summary g t c =
     let W = g.S.CellStore.state in
     rw (← (sym (has_options (W c.args.store.now) (W c.read.new.store) (W c.indexes_of_list.new.store) (W c.indexes_of_list-in-Game.new.store) c.args.handle
     c.in-Game.lefts c.in-Game.rights c.indexes_of_list.new.interner.arena c.indexes_of_list-in-Game.new.interner.arena
@@ -32,7 +32,7 @@ new_index-enter_game-requires-clause-profile g t c =
     c.requires.game c.read.ensures.spends c.indexes_of_list.ensures.spends c.indexes_of_list-in-Game.ensures.spends
     c.in-Game.ensures.game.1 c.in-Game.ensures.game.2 c.read.ensures.canonical c.in_ok-low-in-Game.ensures.indexes
     c.indexes_of_list-in-Game.ensures.begins c.in_ok-high-in-Game.ensures.indexes c.as_slice.ensures c.as_slice-in-Game.ensures).is))
-    c.profile_of_lists-profile.ensures
+    c.summary_of_lists-summary.ensures
 
 pub index_of_handle-returns-in-Some-clause-index : goal.index_of_handle-returns-in-Some-clause-index
 index_of_handle-returns-in-Some-clause-index g t c =

@@ -9,8 +9,8 @@ claimed_game-handle-requires-clause-canonical g c = canonical_node _ _ _ _ c.req
 
 pub claimed_game-handle-requires-clause-spare : goal.claimed_game-handle-requires-clause-spare
 claimed_game-handle-requires-clause-spare g c =
-    let cost = cost_of_options (g.S.CellStore.state c.args.store.now) c.args.lefts.now c.args.rights.now _ _ c.args.new.now.profile
-    c.requires.left_games c.requires.right_games c.requires.form.profile in
+    let cost = cost_of_options (g.S.CellStore.state c.args.store.now) c.args.lefts.now c.args.rights.now _ _ c.args.new.now.summary
+    c.requires.left_games c.requires.right_games c.requires.form.summary in
     omega (arith, cost, c.requires.spare)
 
 pub enter_form-requires : goal.enter_form-requires
@@ -32,7 +32,7 @@ returns-clause-game g c =
 
 pub returns-clause-spends : goal.returns-clause-spends
 returns-clause-spends g c =
-    let cost = cost_of_options (g.S.CellStore.state c.args.store.now) c.args.lefts.now c.args.rights.now _ _ c.args.new.now.profile
-    c.requires.left_games c.requires.right_games c.requires.form.profile in
+    let cost = cost_of_options (g.S.CellStore.state c.args.store.now) c.args.lefts.now c.args.rights.now _ _ c.args.new.now.summary
+    c.requires.left_games c.requires.right_games c.requires.form.summary in
     let spends = c.claimed_game-handle.ensures.spends in
     (spends.0, omega (arith, cost, spends.1), spends.2)

@@ -8,5 +8,5 @@ returns-clause-paid g c =
     let form = written c.args.interner.now.arena c.args.new.now in
     let spends = c.claimed.ensures.spends in
     made_paid (W c.args.store.now) (W c.claimed.new.store) c.args.meter.now c.charge_form.new.self form c.args.extra c.claimed.result
-    spends.0 c.args.new.now.profile.cost spends.1 spends.2 c.in_ok-charge_form.ensures.ok c.in_ok-charge_form.ensures.fits
-    c.claimed.ensures.game (c.in_ok-charge_form.ensures.charged form c.requires.form.profile)
+    spends.0 c.args.new.now.summary.cost spends.1 spends.2 c.in_ok-charge_form.ensures.ok c.in_ok-charge_form.ensures.fits
+    c.claimed.ensures.game (c.in_ok-charge_form.ensures.charged form c.requires.form.summary)

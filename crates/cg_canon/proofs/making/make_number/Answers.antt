@@ -9,6 +9,6 @@ returns g c =
     let t = g.S.CellStore.state c.number-2.new.store in
     let cost = c.number.result.cost in
     made_paid s t c.args.meter.now c.charge_form.new.self (number c.args.x) c.args.extra c.number-2.result cost cost (omega arith)
-    (rw c.number.ensures.profile.cost c.number-2.ensures.spends)
+    (rw c.number.ensures.summary.cost c.number-2.ensures.spends)
     c.in_ok-charge_form.ensures.ok c.in_ok-charge_form.ensures.fits c.number-2.ensures.game
-    (c.in_ok-charge_form.ensures.charged (number c.args.x) c.number.ensures.profile)
+    (c.in_ok-charge_form.ensures.charged (number c.args.x) c.number.ensures.summary)

@@ -8,5 +8,5 @@ returns-clause-paid g c =
     let gs = c.args.interner.now.arena in
     let form = game_of gs c.args.index in
     paid_known (g.S.CellStore.state c.args.store.now) c.args.meter.now c.charge_form.new.self gs c.args.index form c.args.extra
-    c.profile.result.now.cost c.in_ok-charge_form.ensures.ok c.in_ok-charge_form.ensures.fits
-    (record { within = c.requires.index; is = refl }) (c.in_ok-charge_form.ensures.charged form c.profile.ensures.profile)
+    c.summary.result.now.cost c.in_ok-charge_form.ensures.ok c.in_ok-charge_form.ensures.fits
+    (record { within = c.requires.index; is = refl }) (c.in_ok-charge_form.ensures.charged form c.summary.ensures.summary)

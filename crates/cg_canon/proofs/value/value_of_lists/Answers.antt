@@ -24,8 +24,8 @@ returns-in-Search-clause-value g c =
     (ap (games_of gs) c.as_slice-rights.ensures ∙ c.in_ok-put_both.ensures.rights.1) in
     c.canonicalize.ensures.canonicalized (can unreduced) (rw same (can-is unreduced))
 
-pub profile_of_lists-profile-requires-clause-no_number : goal.profile_of_lists-profile-requires-clause-no_number
-profile_of_lists-profile-requires-clause-no_number g c =
+pub summary_of_lists-summary-requires-clause-no_number : goal.summary_of_lists-summary-requires-clause-no_number
+summary_of_lists-summary-requires-clause-no_number g c =
     let s = g.S.CellStore.state c.args.store.now in
     let gs = c.put_both.new.interner.arena in
     rw (same_node _ _ _ _ (ap (games_of gs) c.as_slice-lefts.ensures ∙ c.in_ok-put_both.ensures.lefts.1)
@@ -35,6 +35,6 @@ pub returns-in-AsGiven-clause-value : goal.returns-in-AsGiven-clause-value
 returns-in-AsGiven-clause-value g c =
     let s = g.S.CellStore.state c.args.store.now in
     let gs = c.put_both.new.interner.arena in
-    given_form gs (games_at s c.args.lefts.now) (games_at s c.args.rights.now) (record { form = c.put_both.new.form; profile = c.profile_of_lists-profile.result })
+    given_form gs (games_at s c.args.lefts.now) (games_at s c.args.rights.now) (record { form = c.put_both.new.form; summary = c.summary_of_lists-summary.result })
     (rw c.in-AsGiven.is at c.requires.way) c.in_ok-put_both.ensures.lefts c.in_ok-put_both.ensures.rights
-    (rw (← c.as_slice-rights.ensures) (rw (← c.as_slice-lefts.ensures) c.profile_of_lists-profile.ensures))
+    (rw (← c.as_slice-rights.ensures) (rw (← c.as_slice-lefts.ensures) c.summary_of_lists-summary.ensures))

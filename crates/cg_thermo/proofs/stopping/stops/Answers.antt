@@ -6,6 +6,6 @@ use Rattle.cg_thermo.proofs.stopping.stops.Goals as goal
 
 pub returns-clause-stops : goal.returns-clause-stops
 returns-clause-stops g c =
-    let p = c.profile_at-profile.result.now in
+    let p = c.summary_at-summary.result.now in
     let P : Game → Type 0 = λ z. StopsAre z (record { left = p.high.at; right = p.low.at }) in
-    subst P c.in_ok-index.ensures.index.is (stops_of_cuts _ p c.profile_at-profile.ensures.cuts)
+    subst P c.in_ok-index.ensures.index.is (stops_of_cuts _ p c.summary_at-summary.ensures.cuts)

@@ -15,15 +15,15 @@ entry_of c = record {
   weight = 1;
 }
 
-pushed : (c : goal.In_ok-add) → IsArena c.self.inside.options.items c.add.new.entries.items c.add.new.profiles.items
-    × (said_by c.self.inside.options.items [] (zip c.add.new.entries.items c.add.new.profiles.items) ≡ c.args.self.now ++ (number c.args.x ∷ []))
+pushed : (c : goal.In_ok-add) → IsArena c.self.inside.options.items c.add.new.entries.items c.add.new.summaries.items
+    × (said_by c.self.inside.options.items [] (zip c.add.new.entries.items c.add.new.summaries.items) ≡ c.args.self.now ++ (number c.args.x ∷ []))
 pushed c =
     let opts = c.self.inside.options.items in
     let e : c.len-end.result ≡ length opts = search rules in
-    let adds : Adds opts c.args.self.now (entry_of c) c.number-profile.result (number c.args.x) =
-    adds_number opts c.args.self.now (entry_of c) c.number-profile.result c.args.x refl c.number-profile.ensures.at e e e c.number-profile.ensures.profile c.of.ensures in
-    one_entry opts c.self.inside.entries.items c.add.new.entries.items c.self.inside.profiles.items c.add.new.profiles.items c.args.self.now (entry_of c) c.number-profile.result
-    (number c.args.x) c.self.invariant c.self.view_is adds c.in_ok-add.ensures.entries c.in_ok-add.ensures.profiles c.requires.few
+    let adds : Adds opts c.args.self.now (entry_of c) c.number-summary.result (number c.args.x) =
+    adds_number opts c.args.self.now (entry_of c) c.number-summary.result c.args.x refl c.number-summary.ensures.at e e e c.number-summary.ensures.summary c.of.ensures in
+    one_entry opts c.self.inside.entries.items c.add.new.entries.items c.self.inside.summaries.items c.add.new.summaries.items c.args.self.now (entry_of c) c.number-summary.result
+    (number c.args.x) c.self.invariant c.self.view_is adds c.in_ok-add.ensures.entries c.in_ok-add.ensures.summaries c.requires.few
 
 pub invariant_of-self-2 : goal.invariant_of-self-2
 invariant_of-self-2 c = (pushed c).0
