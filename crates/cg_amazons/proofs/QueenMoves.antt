@@ -1,5 +1,6 @@
 -- What queens and arrows make of the cells, by their words.
-use Rattle.std.proofs.Common.{◌≡◌, ◌≢◌, ◌↔◌, true, false, ℕ, ◌*◌, ◌<◌, ◌==◌, inl, inr, List, length, ap, sym, ◌∙◌, arith, get_or-set_other, get_or-set_same, length-set}
+use Rattle.std.proofs.Common.{◌≡◌, ◌≢◌, ◌↔◌, true, false, ℕ, ◌*◌, ◌<◌, ◌==◌, inl, inr, List, length}
+use Rattle.std.proofs.Common.{ap, sym, ◌∙◌, arith, get_or-set_other, get_or-set_same, length-set}
 use Rattle.std.specs.Prelude.{if◌then◌else◌, slice_index, slice_set}
 use Rattle.std.specs.Int.{bit_at}
 use Rattle.std.proofs.lemmas.Bool.{eq-eqb, eqb-true}

@@ -95,7 +95,8 @@ takes_one p b old new x made put =
         | inr n ↦ (rw (in_one q (with_cells p x) n) refl)
       ]);
       kept = λ z m. carry z (cells_of old ++ (x ∷ [])) (cells_of (old ++ (with_cells p x ∷ []))) (sym cells) (in-append_left z (cells_of old) (x ∷ []) m);
-      taken = λ z k. carry z (cells_of old ++ (x ∷ [])) (cells_of (old ++ (with_cells p x ∷ []))) (sym cells) (in-append_right z (cells_of old) (x ∷ []) (inl k));
+      taken = λ z k. carry z (cells_of old ++ (x ∷ [])) (cells_of (old ++ (with_cells p x ∷ []))) (sym cells) (in-append_right z (cells_of old) (x ∷ [])
+          (inl k));
       only = λ z m. elim (in-append z (cells_of old) (x ∷ []) (carry z (cells_of (old ++ (with_cells p x ∷ []))) (cells_of old ++ (x ∷ [])) cells m)) [
         | inl n ↦ inl n
         | inr n ↦ inr (in_one z x n)

@@ -1,5 +1,6 @@
 -- Amazons: a queen moves and shoots.
-use Rattle.std.specs.Prelude.{ℕ, zero, suc, ◌+◌, ◌-◌, ◌%◌, ◌≡◌, ◌<◌, ◌==◌, Bool, true, nat_lt, cond, List, [], ◌∷◌, ◌++◌, map, count_by, length, slice_index, slice_set, Option, Some, None, option_and_then}
+use Rattle.std.specs.Prelude.{ℕ, zero, suc, ◌+◌, ◌-◌, ◌%◌, ◌≡◌, ◌<◌, ◌==◌, Bool, true, nat_lt, cond, List, [], ◌∷◌, ◌++◌}
+use Rattle.std.specs.Prelude.{map, count_by, length, slice_index, slice_set, Option, Some, None, option_and_then}
 use Rattle.std.specs.List.{flat_map}
 use Rattle.std.specs.Option.{option_map_or}
 use Rattle.std.specs.Str.{bytes_eq}
@@ -55,7 +56,8 @@ is_empty cells i = slice_index cells i == empty
 -- so many steps that way, each onto an empty cell
 abbrev pub Along : ℕ → List ℕ → Way → ℕ → ℕ → ℕ → Type 0
 Along columns cells way zero from to = from ≡ to
-Along columns cells way (suc steps) from to = (next : ℕ) × (step columns (length cells) way from ≡ Some next) × (is_empty cells next ≡ true) × Along columns cells way steps next to
+Along columns cells way (suc steps) from to = (next : ℕ) × (step columns (length cells) way from ≡ Some next) × (is_empty cells next ≡ true) × Along columns
+    cells way steps next to
 
 -- at least one cell along empty cells in one of the eight directions
 pub record Reaches (columns : ℕ) (cells : List ℕ) (from to : ℕ) : Type 0 where

@@ -1,5 +1,6 @@
 -- What queens reach, in words.
-use Rattle.std.specs.Prelude.{◌≡◌, ◌↔◌, ◌≢◌, ℕ, ◌*◌, ◌%◌, ◌<◌, ◌≤◌, ◌==◌, ◌&&◌, Bool, not, nat_lt, if◌then◌else◌, List, length, map, slice_index, Option, Some, Contains, true}
+use Rattle.std.specs.Prelude.{◌≡◌, ◌↔◌, ◌≢◌, ℕ, ◌*◌, ◌%◌, ◌<◌, ◌≤◌, ◌==◌, ◌&&◌, Bool, not, nat_lt}
+use Rattle.std.specs.Prelude.{if◌then◌else◌, List, length, map, slice_index, Option, Some, Contains, true}
 use Rattle.std.specs.Int.{bit_at}
 use Rattle.std.specs.List.{range_with_len}
 use Rattle.cg_moves.specs.Grid.{Grid}

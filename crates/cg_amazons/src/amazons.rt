@@ -11,8 +11,8 @@ use crate::shape::Shape;
 use cg_moves::{Board, Boards, Pieces, Player, Rules, risen};
 use std::alloc::{AllocError, Global};
 
-/// Amazons: a queen moves along empty cells in one of the eight directions, and then shoots an arrow along empty cells in one
-/// of them, whose cell is blocked from then on.
+/// Amazons: a queen moves along empty cells in one of the eight directions, and then shoots an arrow along empty cells
+/// in one of them, whose cell is blocked from then on.
 #[derive(Clone, Copy, Debug, PartialEq, Eq)]
 pub struct Amazons;
 

@@ -125,7 +125,8 @@ fn move_and_shoot(
     Ok(())
 }
 
-/// Puts the boards that the queen on this cell leads to, when it moves onto that one, behind the boards, if it reaches that.
+/// Puts the boards that the queen on this cell leads to, when it moves onto that one, behind the boards, if it reaches
+/// that.
 fn move_onto(
     alloc: Global,
     board: &Board,

@@ -47,8 +47,8 @@ pub(crate) fn reached(shape: Shape, free: u64, cell: u8) -> u64
     ((up_back | up) | (up_forth | back)) | ((forth | down_back) | (down | down_forth))
 }
 
-/// The cells that a queen reaches by one move: bit i is 1 exactly where it comes from `cell` to cell i along cells whose bit
-/// in `free` is 1. The board has 1 to 64 cells in rows and columns, and `cell` is one of them.
+/// The cells that a queen reaches by one move: bit i is 1 exactly where it comes from `cell` to cell i along cells
+/// whose bit in `free` is 1. The board has 1 to 64 cells in rows and columns, and `cell` is one of them.
 pub fn rays(free: u64, rows: u8, columns: u8, cell: u8) -> u64
     requires some { 1 ≤ rows * columns }
     requires few { rows * columns ≤ 64 }

@@ -1,5 +1,6 @@
 -- What stands in the places of options.
-use Rattle.std.proofs.Common.{◌≡◌, refl, ℕ, suc, ◌+◌, ◌<◌, inl, inr, arith, ap, sym, ◌∙◌, subst, List, [], ◌∷◌, ◌++◌, take, get_or, length, Bool, true, false, cond, IsTrue}
+use Rattle.std.proofs.Common.{◌≡◌, refl, ℕ, suc, ◌+◌, ◌<◌, inl, inr, arith, ap, sym, ◌∙◌, subst, List}
+use Rattle.std.proofs.Common.{[], ◌∷◌, ◌++◌, take, get_or, length, Bool, true, false, cond, IsTrue}
 use Rattle.std.specs.Prelude.{◌⊎◌}
 use Rattle.std.proofs.lemmas.List.Elements.{All-nil}
 use Rattle.cg_dyadic.specs.Number.{Number}
@@ -232,7 +233,8 @@ fine_more gs left g ps i k h l e f = λ x m.
     let next : i + 1 ≡ suc i = omega arith in
     let list : games_of gs (take (i + 1) ps) ≡ games_of gs (take i ps) ++ game_of gs k ∷ [] =
     ap (λ n. games_of gs (take n ps)) next ∙ games_take_suc gs ps i 0 l ∙ ap (λ z. games_of gs (take i ps) ++ game_of gs z ∷ []) (sym e) in
-    elim (among-append x (games_of gs (take i ps)) (game_of gs k ∷ []) (carry x (games_of gs (take (i + 1) ps)) (games_of gs (take i ps) ++ game_of gs k ∷ []) list m)) [
+    elim (among-append x (games_of gs (take i ps)) (game_of gs k ∷ []) (carry x (games_of gs (take (i + 1) ps)) (games_of gs (take i ps) ++ game_of gs k ∷ [])
+    list m)) [
       | inl j ↦ h x j
       | inr j ↦ elim j [
         | inl q ↦ (rw q f)

@@ -1,7 +1,9 @@
 -- The games that entries say, one after the other.
-use Rattle.std.proofs.Common.{◌≡◌, refl, ℕ, zero, suc, ◌+◌, ◌-◌, ◌<◌, ◌≤◌, ◌^◌, arith, inl, inr, ap, sym, ◌∙◌, subst, List, [], ◌∷◌, ◌++◌, length, length-append, take, drop, get_or, zip, Bool, true, false, cond, ◌⊎◌}
+use Rattle.std.proofs.Common.{◌≡◌, refl, ℕ, zero, suc, ◌+◌, ◌-◌, ◌<◌, ◌≤◌, ◌^◌, arith, inl, inr, ap, sym, ◌∙◌, subst, List}
+use Rattle.std.proofs.Common.{[], ◌∷◌, ◌++◌, length, length-append, take, drop, get_or, zip, Bool, true, false, cond, ◌⊎◌}
 use Rattle.std.proofs.Math.Seq.{drop-append_seam, take-append_seam}
-use Rattle.std.proofs.lemmas.List.{drop-append-le, take-append-le, length-drop, get_or_append_left, get_or-append_right, get_or_default, append_assoc, append-nil}
+use Rattle.std.proofs.lemmas.List.{drop-append-le, take-append-le, length-drop, get_or_append_left}
+use Rattle.std.proofs.lemmas.List.{get_or-append_right, get_or_default, append_assoc, append-nil}
 use Rattle.std.proofs.lemmas.Slice.Zip.{length-zip, get_or-zip}
 use Rattle.std.specs.List.{slice_range}
 use Rattle.cg_dyadic.specs.Number.{Number}
@@ -192,7 +194,8 @@ range_behind opts own more a b e f =
 written_longer_entry : (opts more : List ℕ) (gs : List Game) (p : Entry) (f : Summary) → IsWritten opts gs p f
     → (said (opts ++ more) gs p f ≡ said opts gs p f) × IsWritten (opts ++ more) gs p f
 written_longer_entry opts more gs p f w =
-    let l : left_indexes (opts ++ more) p ≡ left_indexes opts p = range_before opts more p.lefts p.rights w.first (let a = w.second in let b = w.end in omega arith) in
+    let l : left_indexes (opts ++ more) p ≡ left_indexes opts p = range_before opts more p.lefts p.rights w.first (let a = w.second in let b = w.end in
+    omega arith) in
     let r : right_indexes (opts ++ more) p ≡ right_indexes opts p = range_before opts more p.rights p.end w.second w.end in
     let e : said (opts ++ more) gs p f ≡ said opts gs p f =
     ap (λ z. cond p.is_number (number f.low.at) (node (games_of gs z) (games_of gs (right_indexes (opts ++ more) p)))) l

@@ -1,5 +1,6 @@
 -- The cuts and the depth of a list of indexes, and what they say of the game of two lists.
-use Rattle.std.proofs.Common.{◌≡◌, refl, ℕ, ◌+◌, ◌<◌, ◌≤◌, arith, suc, ap, sym, ◌∙◌, subst, inl, inr, max, Option, Some, List, [], ◌∷◌, ◌++◌, get_or, length, take, Bool, true, false, not}
+use Rattle.std.proofs.Common.{◌≡◌, refl, ℕ, ◌+◌, ◌<◌, ◌≤◌, arith, suc, ap, sym, ◌∙◌, subst, inl, inr, max}
+use Rattle.std.proofs.Common.{Option, Some, List, [], ◌∷◌, ◌++◌, get_or, length, take, Bool, true, false, not}
 use Rattle.cg_dyadic.specs.Cut.{in_gap, in_cut}
 use Rattle.cg_dyadic.specs.Number.{Number}
 use Rattle.cg_dyadic.specs.Simplest.{NoOptionPasses, NonePasses}

@@ -1,5 +1,6 @@
 -- Answers that are kept, the first ones in a list.
-use Rattle.std.proofs.Common.{◌≡◌, refl, ℕ, zero, suc, ◌<◌, ◌⊎◌, inl, inr, arith, ap, sym, ◌∙◌, Option, Some, None, List, [], ◌∷◌, ◌++◌, take, get_or, length, Bool, true, false, cond, nat_eq}
+use Rattle.std.proofs.Common.{◌≡◌, refl, ℕ, zero, suc, ◌<◌, ◌⊎◌, inl, inr, arith, ap, sym, ◌∙◌, Option, Some}
+use Rattle.std.proofs.Common.{None, List, [], ◌∷◌, ◌++◌, take, get_or, length, Bool, true, false, cond, nat_eq}
 use Rattle.std.specs.HashMap.{get}
 use Rattle.std.proofs.lemmas.Bool.Decides.{eqb_tells}
 use Rattle.cg_arena.specs.declared.verdicts.ByIndex.{ByIndex}

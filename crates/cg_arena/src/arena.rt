@@ -37,12 +37,13 @@ pub enum Read<'a> {
     Game(&'a [u32], &'a [u32]),
 }
 
-/// Games in canonical form, each at an index. The indexes are counted from 0, and those of the options of a game come before its
-/// own. Contracts see the list of games.
+/// Games in canonical form, each at an index. The indexes are counted from 0, and those of the options of a game come
+/// before its own. Contracts see the list of games.
 #[derive(Drop)]
 pub struct Arena {
     entries: Vec<Entry>,
-    /// What is known of the game at each index besides its options. It stands apart, since a comparison reads the keys alone.
+    /// What is known of the game at each index besides its options. It stands apart, since a comparison reads the keys
+    /// alone.
     summaries: Vec<Summary>,
     options: Vec<u32>,
 }

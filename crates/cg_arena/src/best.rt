@@ -1,8 +1,8 @@
 //! The undominated options of a list, here also called the best of them.
 //!
-//! They are found in no order: most of them are bypassed, or are dominated by what a bypass brings in, before their order matters.
-//! In a long list the games come furthest first, and how far the best of them go is kept beside them: a game that goes further than
-//! all of these is compared with none of them.
+//! They are found in no order: most of them are bypassed, or are dominated by what a bypass brings in, before their
+//! order matters. In a long list the games come furthest first, and how far the best of them go is kept beside them: a
+//! game that goes further than all of these is compared with none of them.
 ghost use Rattle.std.specs.Prelude.{◌≡◌, false, not, IfOk, IsTrue};
 ghost use Rattle.cg_form.specs.Best.{keep};
 ghost use Rattle.cg_form.specs.Order.{no_one};
@@ -54,7 +54,8 @@ struct Chosen {
     bounds: Bounds,
 }
 
-/// Whether the last of the items is as good as x for the player. Where the games come furthest first, it is the likeliest.
+/// Whether the last of the items is as good as x for the player. Where the games come furthest first, it is the
+/// likeliest.
 fn last_beats(
     arena: &Arena,
     answers: &mut OrderMemo,

@@ -1,8 +1,8 @@
 //! Bypassing the reversible options of a game that equals no number.
 //!
-//! An option that is reversible through a number is replaced by that number itself: the number is at least as good as what
-//! the bypass would bring in, and adds nothing, since another option is at least as good as the number. So no number is
-//! counted down. Each option is bypassed once, however many ways lead to it.
+//! An option that is reversible through a number is replaced by that number itself: the number is at least as good as
+//! what the bypass would bring in, and adds nothing, since another option is at least as good as the number. So no
+//! number is counted down. Each option is bypassed once, however many ways lead to it.
 ghost use Rattle.std.specs.Prelude.{◌≡◌, [], IfOk, cond};
 ghost use Rattle.cg_form.specs.Bypass.{AllCovered, Grown};
 ghost use Rattle.cg_form.specs.Game.{Among};

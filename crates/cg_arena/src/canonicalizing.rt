@@ -40,8 +40,8 @@ pub enum Canonicalized {
     Game(NewForm),
 }
 
-/// The canonical form of the game with these options, which equals no number, and has this summary. Equal games cut the numbers
-/// alike, so the form has the cuts of this summary too.
+/// The canonical form of the game with these options, which equals no number, and has this summary. Equal games cut the
+/// numbers alike, so the form has the cuts of this summary too.
 fn form_of(
     arena: &Arena,
     answers: &mut OrderMemo,
@@ -83,9 +83,9 @@ fn form_of(
     Ok(new)
 }
 
-/// What the game with these options is. Where it is a sum of two terms, `first_term` says which of its options come from the first
-/// one: on each side these come first. The only error is want of memory. (Siegel, Combinatorial Game Theory (2013), II.2 and
-/// II.3.)
+/// What the game with these options is. Where it is a sum of two terms, `first_term` says which of its options come
+/// from the first one: on each side these come first. The only error is want of memory. (Siegel, Combinatorial Game
+/// Theory (2013), II.2 and II.3.)
 pub fn canonicalize(
     arena: &Arena,
     answers: &mut OrderMemo,

@@ -1,7 +1,7 @@
 //! Where the cuts of a game lie among the numbers, as whole numbers.
 //!
-//! A number has twice its units as a key, and the place just behind it one more. So two cuts are compared by one comparison of
-//! their keys, whether they are closed or open.
+//! A number has twice its units as a key, and the place just behind it one more. So two cuts are compared by one
+//! comparison of their keys, whether they are closed or open.
 ghost use Rattle.std.specs.Prelude.{◌≡◌};
 ghost use Rattle.cg_dyadic.specs.Number.{InRange};
 ghost use Rattle.cg_arena.specs.Keys.{AreKeys, key_of};

@@ -1,4 +1,5 @@
-//! The arena: interned games in canonical form, each at an index, their order, and the canonical forms of games of two lists of indexes.
+//! The arena: interned games in canonical form, each at an index, their order, and the canonical forms of games of two
+//! lists of indexes.
 #![tactic(auto)]
 
 mod arena;

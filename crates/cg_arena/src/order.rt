@@ -1,9 +1,9 @@
 //! The order of the games at two indexes.
 //!
-//! Numbers that lie between two games, or beside one of them, tell most answers. Only the other pairs are compared by their
-//! options, as the definition says, and only their answers are kept, unless both games are light. A number is never counted
-//! down: it is at most a game that equals no number exactly where it is at least no Right option, and at least such a game
-//! exactly where it is at most no Left option.
+//! Numbers that lie between two games, or beside one of them, tell most answers. Only the other pairs are compared by
+//! their options, as the definition says, and only their answers are kept, unless both games are light. A number is
+//! never counted down: it is at most a game that equals no number exactly where it is at least no Right option, and at
+//! least such a game exactly where it is at most no Left option.
 ghost use Rattle.std.specs.Prelude.{◌≡◌, IfOk};
 ghost use Rattle.cg_form.specs.Order.{le, no_one};
 ghost use Rattle.cg_form.specs.Side.{at_most as at_most_for};
@@ -15,8 +15,8 @@ use crate::decided::decided_for;
 use crate::order_memo::OrderMemo;
 use std::alloc::AllocError;
 
-/// Whether the player has no option in the list that is as good as x; with `left` the player is Left, and else Right with
-/// the order turned.
+/// Whether the player has no option in the list that is as good as x; with `left` the player is Left, and else Right
+/// with the order turned.
 #[cycle(found)]
 pub(crate) fn none_as_good(
     arena: &Arena,
@@ -68,8 +68,8 @@ fn compared(arena: &Arena, answers: &mut OrderMemo, a: u32, b: u32) -> Result<bo
     }
 }
 
-/// Whether a <= b, by an answer that is kept, or from their options. The answer is kept, unless both games are light: these are
-/// compared again.
+/// Whether a <= b, by an answer that is kept, or from their options. The answer is kept, unless both games are light:
+/// these are compared again.
 #[cycle(found)]
 fn found(arena: &Arena, answers: &mut OrderMemo, a: u32, b: u32) -> Result<bool, AllocError>
     requires a { IsIndex arena.now a }
@@ -89,8 +89,8 @@ fn found(arena: &Arena, answers: &mut OrderMemo, a: u32, b: u32) -> Result<bool,
     Ok(answer)
 }
 
-/// Whether the game a is no better for the player than b; with `left` the player is Left, and else Right. The only error is want
-/// of memory. (Siegel, Combinatorial Game Theory (2013), I.1 and II.1.)
+/// Whether the game a is no better for the player than b; with `left` the player is Left, and else Right. The only
+/// error is want of memory. (Siegel, Combinatorial Game Theory (2013), I.1 and II.1.)
 #[cycle(found)]
 pub fn at_most(
     arena: &Arena,

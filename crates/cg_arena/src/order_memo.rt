@@ -1,9 +1,9 @@
 //! The comparison cache: answers to comparisons that were found of late.
 //!
-//! Each pair of games has two places in a table, which it shares with other pairs. A new answer stands at the first of them, the one
-//! that stood there goes to its neighbour, and the one that stood at the neighbour is forgotten. The table grows with the answers of
-//! one question, up to a fixed size; so they take a bounded memory, however many are found. As long as it is small it serves
-//! question after question.
+//! Each pair of games has two places in a table, which it shares with other pairs. A new answer stands at the first of
+//! them, the one that stood there goes to its neighbour, and the one that stood at the neighbour is forgotten. The
+//! table grows with the answers of one question, up to a fixed size; so they take a bounded memory, however many are
+//! found. As long as it is small it serves question after question.
 ghost use Rattle.std.specs.Prelude.{◌≡◌, ◌⊎◌, IfOk, IfSome, OnErr};
 ghost use Rattle.cg_arena.specs.declared.order_memo.Answer.{Answer as Known};
 ghost use Rattle.cg_arena.specs.OrderMemos.{IsPlaced, IsKept};
@@ -80,8 +80,9 @@ fn set(places: &mut [Option<Answer>], at: usize, low: u32, high: u32, at_most: b
     }
 }
 
-/// Puts the answer to whether the one game is at most the other at its first place, and what stood there at its second one. It comes
-/// in parts, since an answer that was just written would be read again as one word, and the processor waits for that.
+/// Puts the answer to whether the one game is at most the other at its first place, and what stood there at its second
+/// one. It comes in parts, since an answer that was just written would be read again as one word, and the processor
+/// waits for that.
 fn put(places: &mut [Option<Answer>], low: u32, high: u32, at_most: bool)
     ensures { (x : Known) → IsPlaced places.new x
         → (x ≡ record { low = low; high = high; at_most = at_most }) ⊎ IsPlaced places.old x }
@@ -148,8 +149,8 @@ impl OrderMemo {
         None
     }
 
-    /// Makes the table larger, where half as many answers as it has places were put into it since it grew, and it isn't yet
-    /// of the greatest size. Nothing changes where there is no memory.
+    /// Makes the table larger, where half as many answers as it has places were put into it since it grew, and it isn't
+    /// yet of the greatest size. Nothing changes where there is no memory.
     fn grow(&mut self) -> Result<(), AllocError>
         ensures { (x : Known) → IsKept self.new x → IsKept self.old x }
     {
@@ -163,8 +164,8 @@ impl OrderMemo {
         Ok(())
     }
 
-    /// Keeps whether the first game is at most the second. Some other answer may be forgotten for it. Nothing changes where there is
-    /// no memory.
+    /// Keeps whether the first game is at most the second. Some other answer may be forgotten for it. Nothing changes
+    /// where there is no memory.
     pub(crate) fn remember(&mut self, low: u32, high: u32, at_most: bool) -> Result<(), AllocError>
         ensures ok { IfOk result (λ _. (x : Known) → IsKept self.new x
             → (x ≡ record { low = low; high = high; at_most = at_most }) ⊎ IsKept self.old x) }
@@ -176,8 +177,8 @@ impl OrderMemo {
         Ok(())
     }
 
-    /// Makes ready for another question. A small table stays, with its answers, and stands in near caches; a large one is given
-    /// up, since another question asks for few of its answers.
+    /// Makes ready for another question. A small table stays, with its answers, and stands in near caches; a large one
+    /// is given up, since another question asks for few of its answers.
     pub fn make_ready(&mut self)
         ensures { (x : Known) → IsKept self.new x → IsKept self.old x }
     {

@@ -1,7 +1,7 @@
 //! The best of the options of a game that may be a sum of two terms.
 //!
-//! Sums keep the order. So of the options of a sum that come from one term, no two are comparable, as no two options of that
-//! term are: only options of different terms need a comparison.
+//! Sums keep the order. So of the options of a sum that come from one term, no two are comparable, as no two options of
+//! that term are: only options of different terms need a comparison.
 ghost use Rattle.std.specs.Prelude.{◌++◌, IfOk, cond};
 ghost use Rattle.cg_arena.specs.Arena.{AreIndexes, games_of};
 ghost use Rattle.cg_arena.specs.OrderMemos.{AreRight};

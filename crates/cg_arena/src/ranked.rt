@@ -1,7 +1,7 @@
 //! Games in order, those first that go furthest.
 //!
-//! Of games that the numbers tell apart, each goes further than all before it to one side and less far to the other, so it
-//! is enough to look at how far those before it go together.
+//! Of games that the numbers tell apart, each goes further than all before it to one side and less far to the other, so
+//! it is enough to look at how far those before it go together.
 ghost use Rattle.std.specs.Prelude.{IfOk};
 ghost use Rattle.std.specs.List.Sorted.{IsPermutation};
 
@@ -9,8 +9,8 @@ use crate::arena::Arena;
 use std::alloc::{AllocError, Global};
 use std::cmp::Ordering;
 
-/// Which of the games at two indexes comes first for the player, where both indexes are there: the one with more numbers that are no
-/// better, and where these are the same, the one with fewer numbers that are as good.
+/// Which of the games at two indexes comes first for the player, where both indexes are there: the one with more
+/// numbers that are no better, and where these are the same, the one with fewer numbers that are as good.
 fn compare_reach(arena: &Arena, left: bool, a: u32, b: u32) -> Ordering {
     let count = arena.count();
     if a as usize >= count || b as usize >= count {

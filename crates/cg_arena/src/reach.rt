@@ -1,7 +1,7 @@
 //! How far the games of a list go among the numbers.
 //!
-//! Where the keys show that a game goes further than each of a list, none of the list is as good for the player, and none
-//! of them has to be looked at.
+//! Where the keys show that a game goes further than each of a list, none of the list is as good for the player, and
+//! none of them has to be looked at.
 ghost use Rattle.std.specs.Prelude.{[], ◌∷◌, Bool, List, IsTrue};
 ghost use Rattle.cg_form.specs.Game.{Game};
 ghost use Rattle.cg_form.specs.Known.{EachLess};

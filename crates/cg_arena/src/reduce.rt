@@ -1,7 +1,7 @@
 //! The canonical form of a game of two lists of indexes, found but not yet put into the arena.
 //!
-//! First the dominated options are left out, and then the reversible ones are bypassed. What a bypass brings in may dominate
-//! others, or be dominated; where no option is reversible, the options are the best already.
+//! First the dominated options are left out, and then the reversible ones are bypassed. What a bypass brings in may
+//! dominate others, or be dominated; where no option is reversible, the options are the best already.
 ghost use Rattle.std.specs.Prelude.{◌≡◌, IfOk, [], cond, false, true};
 ghost use Rattle.cg_form.specs.Bypass.{Replaces};
 ghost use Rattle.cg_form.specs.Canonical.{IsCanonicalForm};
@@ -52,7 +52,8 @@ impl Form {
     }
 }
 
-/// Puts what stands in the place of the player's own options of the unreduced game in its canonical form into the list, which is empty.
+/// Puts what stands in the place of the player's own options of the unreduced game in its canonical form into the list,
+/// which is empty.
 #[inline(always)]
 fn put_replaced(
     arena: &Arena,
@@ -79,8 +80,8 @@ fn put_replaced(
     put_in_order(arena, best.as_slice(), list)
 }
 
-/// Puts the options of the canonical form of the unreduced game, of whose own options no two on one side are comparable, into the form, which
-/// has none.
+/// Puts the options of the canonical form of the unreduced game, of whose own options no two on one side are
+/// comparable, into the form, which has none.
 fn put_bypassed(
     arena: &Arena,
     answers: &mut OrderMemo,
@@ -106,9 +107,10 @@ fn put_bypassed(
     Ok(())
 }
 
-/// Puts the options of the canonical form of the game with these options, which equals no number, and which has the same cuts of the
-/// numbers as the summary, into the form, which has none. Where the game is a sum of two terms, `first_term` says which options come
-/// from the first. The only error is want of memory. (Siegel, Combinatorial Game Theory (2013), II.2.)
+/// Puts the options of the canonical form of the game with these options, which equals no number, and which has the
+/// same cuts of the numbers as the summary, into the form, which has none. Where the game is a sum of two terms,
+/// `first_term` says which options come from the first. The only error is want of memory. (Siegel, Combinatorial Game
+/// Theory (2013), II.2.)
 pub(crate) fn put_reduced(
     arena: &Arena,
     answers: &mut OrderMemo,

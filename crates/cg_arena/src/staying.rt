@@ -15,8 +15,8 @@ use crate::unreduced::{Unreduced, chosen, first_at_most};
 use crate::verdicts::Verdicts;
 use std::alloc::AllocError;
 
-/// The option of the other player through which the option is reversible, if there is one: one that is no better for the player
-/// than the unreduced game. An option that is a number has none.
+/// The option of the other player through which the option is reversible, if there is one: one that is no better for
+/// the player than the unreduced game. An option that is a number has none.
 #[inline(always)]
 pub(crate) fn reverser(
     arena: &Arena,

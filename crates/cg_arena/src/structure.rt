@@ -1,7 +1,7 @@
 //! The structural order of the games at two indexes.
 //!
-//! Numbers come before other games, and by value; other games by their lists of Left options, then by their lists of Right
-//! options. Lists are compared entry by entry, and a proper prefix comes first.
+//! Numbers come before other games, and by value; other games by their lists of Left options, then by their lists of
+//! Right options. Lists are compared entry by entry, and a proper prefix comes first.
 ghost use Rattle.std.specs.Prelude.{◌≡◌};
 ghost use Rattle.cg_form.specs.Structure.{game_cmp, order_of_lists};
 ghost use Rattle.cg_arena.specs.Arena.{AreIndexes, IsIndex, game_of, games_of};
@@ -32,8 +32,8 @@ fn compare_lists(arena: &Arena, a: &[u32], b: &[u32]) -> Ordering
     }
 }
 
-/// The structural order of two games. Games at one index are equal at once. It allocates nothing, and calls itself at most as deep as
-/// the games are.
+/// The structural order of two games. Games at one index are equal at once. It allocates nothing, and calls itself at
+/// most as deep as the games are.
 #[cycle(compare)]
 pub(crate) fn compare(arena: &Arena, a: u32, b: u32) -> Ordering
     requires a { IsIndex arena.now a }

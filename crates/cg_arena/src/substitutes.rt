@@ -35,8 +35,8 @@ pub(crate) fn push_options(options: &mut Options, all: &[u32]) -> Result<(), All
     Ok(())
 }
 
-/// What stands in the places of some options, and the indexes of these options. An option that is met again, as one of many that
-/// share their own options, is not bypassed again.
+/// What stands in the places of some options, and the indexes of these options. An option that is met again, as one of
+/// many that share their own options, is not bypassed again.
 #[derive(Drop)]
 pub(crate) struct Substitutes {
     pub(crate) items: Options,

@@ -1,6 +1,7 @@
 //! The summary of a game of two lists of indexes.
 //!
-//! The cut of a list is the one that reaches furthest among the cuts of its games. Which one that is the keys of the cuts say.
+//! The cut of a list is the one that reaches furthest among the cuts of its games. Which one that is the keys of the
+//! cuts say.
 ghost use Rattle.std.specs.Prelude.{◌≡◌, ◌+◌, ◌<◌, ◌≤◌, ◌^◌, false, length, true, IsSome, IsTrue};
 ghost use Rattle.cg_form.specs.Cut.{AnyNumber, CutIs, CutOf};
 ghost use Rattle.cg_form.specs.Depth.{deepest};

@@ -2,8 +2,8 @@
 ghost use Rattle.std.specs.Prelude.{◌≡◌};
 ghost use Rattle.cg_arena.specs.Terms.{count_for};
 
-/// How many of the Left and of the Right options of a sum come from its first term. In their lists, these stand before those
-/// that come from its second.
+/// How many of the Left and of the Right options of a sum come from its first term. In their lists, these stand before
+/// those that come from its second.
 #[derive(Clone, Copy, Debug)]
 pub struct FirstTerm {
     /// Of the Left options.

@@ -16,8 +16,8 @@ use crate::verdicts::Verdicts;
 use cg_form::cuts::in_cut;
 use std::alloc::AllocError;
 
-/// A game by its lists of options, which is to be made canonical. It equals no number, and has no index. On neither side two of
-/// its options are comparable.
+/// A game by its lists of options, which is to be made canonical. It equals no number, and has no index. On neither
+/// side two of its options are comparable.
 #[derive(Drop)]
 pub(crate) struct Unreduced<'a> {
     /// The Left options.

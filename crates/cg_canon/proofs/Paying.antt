@@ -133,7 +133,8 @@ paid_holds s t a b start h n form extra r w p interner same =
 
 -- what is seen of it, before and after
 pub paid_item : {S R : Type 0} (state : S → State Meant R) (a b : MutBor S) (m n : Meter) (start limit : ℕ) (gs hs : List Game)
-    (form : Game) (extra : ℕ) (r : Result ℕ ValueFault) → FormGiven (metered (state a.now) m) (metered (state b.now) n) form extra r → b.ghost_name ≡ a.ghost_name
+    (form : Game) (extra : ℕ) (r : Result ℕ ValueFault) → FormGiven (metered (state a.now) m) (metered (state b.now) n) form extra r → b.ghost_name
+    ≡ a.ghost_name
     → start ≤ (state a.now).spare + m.spent
     → FormGiven (work_state state (record { store = a; spent = m.spent; share = m.share; start = start; limit = limit; arena = gs }))
     (work_state state (record { store = b; spent = n.spent; share = n.share; start = start; limit = limit; arena = hs })) form extra r

@@ -1,8 +1,8 @@
 //! Items that were made before, charged again at once.
 //!
-//! The items of a sum depend on its two games alone, so a sum all of whose items were made in a work, or before in one whose
-//! cache it took up, is charged by what they cost together, where that stays within the share: then each of them would be
-//! made again.
+//! The items of a sum depend on its two games alone, so a sum all of whose items were made in a work, or before in one
+//! whose cache it took up, is charged by what they cost together, where that stays within the share: then each of them
+//! would be made again.
 ghost use Rattle.std.specs.Prelude.{◌≡◌, ◌≤◌, ◌+◌, ◌↔◌, List, IfSome, IfNone, IsTrue, Ok, false};
 ghost use Rattle.cg_canon.specs.Items.{AllPass, Item};
 ghost use Rattle.cg_canon.specs.Made.{Gives};
@@ -18,8 +18,8 @@ use cg_cells::CellStore;
 use cg_nodes::{BoardForms, GameFacts, Handle};
 use std::alloc::AllocError;
 
-/// Charges items that cost so much together, where that stays within the share, and says whether it does. Items that pass where
-/// nothing was spent before and no more than that may be spent are all made again then.
+/// Charges items that cost so much together, where that stays within the share, and says whether it does. Items that
+/// pass where nothing was spent before and no more than that may be spent are all made again then.
 pub fn charge_again<B: BoardForms, S: CellStore<GameFacts<B>>>(
     work: &mut Work<B, S>,
     cost: u64,
@@ -34,8 +34,8 @@ pub fn charge_again<B: BoardForms, S: CellStore<GameFacts<B>>>(
     work.charge(cost)
 }
 
-/// The handle of the canonical form of a + b, where all items of that sum were made before and what they cost together stays
-/// within the share; it is charged. None leaves the work as it was. It takes no memory.
+/// The handle of the canonical form of a + b, where all items of that sum were made before and what they cost together
+/// stays within the share; it is charged. None leaves the work as it was. It takes no memory.
 pub fn sum_again<B: BoardForms, S: CellStore<GameFacts<B>>>(
     work: &mut Work<B, S>,
     a: Handle,
@@ -58,8 +58,8 @@ pub fn sum_again<B: BoardForms, S: CellStore<GameFacts<B>>>(
     }
 }
 
-/// Keeps that the sum is that of a and b, and that all its items were made after so much was spent, `before`, and no others.
-/// The only error is want of memory.
+/// Keeps that the sum is that of a and b, and that all its items were made after so much was spent, `before`, and no
+/// others. The only error is want of memory.
 pub fn keep_sum<B: BoardForms, S: CellStore<GameFacts<B>>>(
     work: &mut Work<B, S>,
     a: Handle,

@@ -1,7 +1,7 @@
 //! The arena of a work: the games that it has met, each at its index.
 //!
-//! A public call on handles asks for an index where it begins and for a handle where it ends. The arena only grows, so what holds at
-//! an index stays.
+//! A public call on handles asks for an index where it begins and for a handle where it ends. The arena only grows, so
+//! what holds at an index stays.
 ghost use Rattle.std.specs.Prelude.{IfOk};
 ghost use Rattle.cg_form.specs.Canonical.{Canonical};
 ghost use Rattle.cg_cells.specs.Store.{Spends};
@@ -19,7 +19,8 @@ use cg_nodes::{BoardForms, GameFacts, Handle};
 use std::alloc::{AllocError, Global};
 
 impl<'a, B: BoardForms, S: CellStore<GameFacts<B>>> Work<'a, B, S> {
-    /// The index of the handle's game, which enters the arena if it isn't found there. The only error is want of memory.
+    /// The index of the handle's game, which enters the arena if it isn't found there. The only error is want of
+    /// memory.
     pub fn index(&mut self, alloc: Global, a: Handle) -> Result<u32, AllocError>
         requires { IsGame (work_state S.state self.old) a }
         ensures index { IfOk result (λ i. IsAt self.new.arena i (game_at (work_state S.state self.old) a)) }

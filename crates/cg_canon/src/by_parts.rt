@@ -1,8 +1,8 @@
 //! Sums of games that are known as numbers, ups and nimbers.
 //!
-//! The sum of two such games is such a game, part by part. So where a game is known as that sum, it stands for the canonical form
-//! of the sum, and no option is looked at. Where two of the three games of a sum are known so, the third is, too: that is how
-//! the multiples of ^, with nimbers and numbers added to them, become known.
+//! The sum of two such games is such a game, part by part. So where a game is known as that sum, it stands for the
+//! canonical form of the sum, and no option is looked at. Where two of the three games of a sum are known so, the third
+//! is, too: that is how the multiples of ^, with nimbers and numbers added to them, become known.
 ghost use Rattle.std.specs.Prelude.{◌≡◌, IfSome};
 ghost use Rattle.cg_arena.specs.Arena.{IsIndex, game_of};
 ghost use Rattle.cg_canon.specs.Arena.{IsAt};

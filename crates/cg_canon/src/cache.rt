@@ -9,7 +9,8 @@ use crate::made::MadeForms;
 use crate::memo::Memo;
 use std::alloc::Global;
 
-/// The cache of a work: the games that it met, their sums, the forms that it made, and which games are a number, ups and a nimber.
+/// The cache of a work: the games that it met, their sums, the forms that it made, and which games are a number, ups
+/// and a nimber.
 ///
 /// It is taken out of a work by [`Work::take_cache`](crate::Work::take_cache), and taken up by a later one by
 /// [`Work::resume`](crate::Work::resume), on a store that knows at least as much.
@@ -39,7 +40,8 @@ impl Cache {
         }
     }
 
-    /// The cache for a later question, which asks for few of the answers to comparisons again: they stay only in a small table.
+    /// The cache for a later question, which asks for few of the answers to comparisons again: they stay only in a
+    /// small table.
     pub(crate) fn for_later(self) -> Cache
         ensures { (known : map.FinMap nat_cmp Meant) → CacheHolds (knowing known) self → CacheHolds (knowing known)
             result }
@@ -49,8 +51,8 @@ impl Cache {
         cache
     }
 
-    /// Whether the interned games or the sums are so many that a caller would rather begin anew than keep them. Of the forms
-    /// only so many are kept in any case.
+    /// Whether the interned games or the sums are so many that a caller would rather begin anew than keep them. Of the
+    /// forms only so many are kept in any case.
     pub fn is_large(&self) -> bool {
         self.memo.interner.arena.count() > LARGE
             || self.memo.count() > LARGE

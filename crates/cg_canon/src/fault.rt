@@ -4,7 +4,8 @@ ghost use Rattle.std.specs.Prelude.{◌≡◌};
 use std::alloc::{AllocError, AllocFailed};
 use thiserror::Error;
 
-/// Why no value was made. Of the causes that apply, the first in the order `Positions`, `Range`, `Depth`, `Full` is given.
+/// Why no value was made. Of the causes that apply, the first in the order `Positions`, `Range`, `Depth`, `Full` is
+/// given.
 #[derive(Clone, Copy, Debug, PartialEq, Eq, Error)]
 pub enum ValueFault {
     /// The value equals a number out of range, or was to be such a number.

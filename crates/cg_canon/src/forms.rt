@@ -20,8 +20,8 @@ use std::alloc::Global;
 /// Forms are found by their options where no side has more than this.
 const MOST_OPTIONS: usize = 32;
 
-/// Makes the item of the canonical form of the game with these options, by the form that was made from them where it is kept, and
-/// else in this way.
+/// Makes the item of the canonical form of the game with these options, by the form that was made from them where it is
+/// kept, and else in this way.
 fn found_item<B: BoardForms, S: CellStore<GameFacts<B>>>(
     alloc: Global,
     work: &mut Work<B, S>,
@@ -46,12 +46,12 @@ fn found_item<B: BoardForms, S: CellStore<GameFacts<B>>>(
     Ok(form)
 }
 
-/// Makes the item of the canonical form of the game with these Left and Right options, with a cost of `extra` more, where
-/// `extra` is at most 8. The lists may have any order and repetitions.
+/// Makes the item of the canonical form of the game with these Left and Right options, with a cost of `extra` more,
+/// where `extra` is at most 8. The lists may have any order and repetitions.
 ///
-/// `Range` comes exactly where the game equals a number out of range; else `Depth` exactly where the depth of the canonical
-/// form is above 512; else `Full` exactly where its cost and `extra` together bring the total cost above the share. After a
-/// refusal nothing was spent. (Siegel, Combinatorial Game Theory (2013), II.2 and II.3.)
+/// `Range` comes exactly where the game equals a number out of range; else `Depth` exactly where the depth of the
+/// canonical form is above 512; else `Full` exactly where its cost and `extra` together bring the total cost above the
+/// share. After a refusal nothing was spent. (Siegel, Combinatorial Game Theory (2013), II.2 and II.3.)
 pub fn canonical<B: BoardForms, S: CellStore<GameFacts<B>>>(
     alloc: Global,
     work: &mut Work<B, S>,
@@ -81,12 +81,12 @@ pub fn canonical<B: BoardForms, S: CellStore<GameFacts<B>>>(
     )
 }
 
-/// Makes the item of a game that is canonical as it is given, with a cost of `extra` more, where `extra` is at most 8. It
-/// is [`canonical`] without the search: both lists rise in the structural order, no option is dominated or
+/// Makes the item of a game that is canonical as it is given, with a cost of `extra` more, where `extra` is at most 8.
+/// It is [`canonical`] without the search: both lists rise in the structural order, no option is dominated or
 /// reversible, and the game equals no number.
 ///
-/// `Depth` comes exactly where its depth is above 512, and else `Full` exactly where its cost and `extra` together bring the
-/// total cost above the share. After a refusal nothing was spent.
+/// `Depth` comes exactly where its depth is above 512, and else `Full` exactly where its cost and `extra` together
+/// bring the total cost above the share. After a refusal nothing was spent.
 pub fn canonical_item<B: BoardForms, S: CellStore<GameFacts<B>>>(
     alloc: Global,
     work: &mut Work<B, S>,

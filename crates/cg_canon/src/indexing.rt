@@ -96,8 +96,9 @@ pub(crate) fn index_of_handle<B: BoardForms, S: CellStore<GameFacts<B>>>(
     new_index(alloc, store, interner, handle)
 }
 
-/// Puts the indexes of the games of the handles into the list, which is empty. So they stand where they are read: a list that was just
-/// written and is moved is read by wider words than it was written by, and the processor waits for that.
+/// Puts the indexes of the games of the handles into the list, which is empty. So they stand where they are read: a
+/// list that was just written and is moved is read by wider words than it was written by, and the processor waits for
+/// that.
 #[inline(always)]
 pub(crate) fn put_indexes<B: BoardForms, S: CellStore<GameFacts<B>>>(
     alloc: Global,

@@ -1,6 +1,7 @@
 //! The interner of a work: the arena of the games that it has met, with their handles.
 ghost use lib.Dec.{eqb};
-ghost use Rattle.std.specs.Prelude.{◌≡◌, ◌<◌, ◌^◌, ◌++◌, ◌∷◌, [], get_or, length, slice_index, true, vec_capacity, vec_len};
+ghost use Rattle.std.specs.Prelude.{◌≡◌, ◌<◌, ◌^◌, ◌++◌, ◌∷◌, [], get_or, length};
+ghost use Rattle.std.specs.Prelude.{slice_index, true, vec_capacity, vec_len};
 ghost use Rattle.std.specs.Prelude.{false, IfOk, IfNone, IfSome, IsTrue};
 ghost use Rattle.std.specs.List.{list_any};
 ghost use Rattle.cg_nodes.specs.Games.{AreGames, games_at};

@@ -13,11 +13,12 @@ use cg_dyadic::Dyadic;
 use cg_nodes::{BoardForms, GameFacts, Handle, number};
 use std::alloc::Global;
 
-/// Makes the item of a number, with a cost of `extra` more, where `extra` is at most 8. None stands for a number out of range.
+/// Makes the item of a number, with a cost of `extra` more, where `extra` is at most 8. None stands for a number out of
+/// range.
 ///
-/// `Range` comes exactly for None, and `Full` exactly where its cost, 1 for a narrow and 3 for a long number, and `extra`
-/// together bring the total cost above the share; the total is in the fault. After a refusal nothing was spent. It takes no
-/// memory.
+/// `Range` comes exactly for None, and `Full` exactly where its cost, 1 for a narrow and 3 for a long number, and
+/// `extra` together bring the total cost above the share; the total is in the fault. After a refusal nothing was spent.
+/// It takes no memory.
 pub fn number_item<B: BoardForms, S: CellStore<GameFacts<B>>>(
     work: &mut Work<B, S>,
     x: Option<Dyadic>,
@@ -40,10 +41,11 @@ pub fn number_item<B: BoardForms, S: CellStore<GameFacts<B>>>(
     }
 }
 
-/// Makes the item of a form that is known already, at this handle, with a cost of `extra` more, where `extra` is at most 8.
+/// Makes the item of a form that is known already, at this handle, with a cost of `extra` more, where `extra` is at
+/// most 8.
 ///
-/// `Depth` comes exactly where its depth is above 512, and else `Full` exactly where its cost and `extra` together bring the
-/// total cost above the share. After a refusal nothing was spent.
+/// `Depth` comes exactly where its depth is above 512, and else `Full` exactly where its cost and `extra` together
+/// bring the total cost above the share. After a refusal nothing was spent.
 #[inline(always)]
 pub fn item_of<B: BoardForms, S: CellStore<GameFacts<B>>>(
     alloc: Global,

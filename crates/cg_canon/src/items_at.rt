@@ -22,8 +22,8 @@ use std::alloc::Global;
 impl<'a, B: BoardForms, S: CellStore<GameFacts<B>>> Work<'a, B, S> {
     /// Makes the item of the form at the index, with a cost of `extra` more, where `extra` is at most 8.
     ///
-    /// `Depth` comes exactly where its depth is above 512, and else `Full` exactly where its cost and `extra` together bring the
-    /// total cost above the share. It takes no memory.
+    /// `Depth` comes exactly where its depth is above 512, and else `Full` exactly where its cost and `extra` together
+    /// bring the total cost above the share. It takes no memory.
     #[inline(always)]
     pub fn item_at(&mut self, index: u32, extra: u64) -> Result<u32, ValueFault>
         requires extra { extra ≤ 8 }
@@ -42,9 +42,11 @@ impl<'a, B: BoardForms, S: CellStore<GameFacts<B>>> Work<'a, B, S> {
         )
     }
 
-    /// Makes the item of a number, with a cost of `extra` more, where `extra` is at most 8. None stands for a number out of range.
+    /// Makes the item of a number, with a cost of `extra` more, where `extra` is at most 8. None stands for a number
+    /// out of range.
     ///
-    /// `Range` comes exactly for None, and `Full` exactly where its cost and `extra` together bring the total cost above the share.
+    /// `Range` comes exactly for None, and `Full` exactly where its cost and `extra` together bring the total cost
+    /// above the share.
     pub fn number_item_at(&mut self, x: Option<Dyadic>, extra: u64) -> Result<u32, ValueFault>
         requires { extra ≤ 8 }
         ensures { (form : Game) → IsValue x form → ItemAt (work_state S.state self.old) (work_state S.state self.new)
@@ -62,8 +64,8 @@ impl<'a, B: BoardForms, S: CellStore<GameFacts<B>>> Work<'a, B, S> {
         }
     }
 
-    /// Makes the item of a game that is canonical as it is given, by the indexes of its options, with a cost of `extra` more, where
-    /// `extra` is at most 8. `Depth` and `Full` come as in [`Work::item_at`].
+    /// Makes the item of a game that is canonical as it is given, by the indexes of its options, with a cost of `extra`
+    /// more, where `extra` is at most 8. `Depth` and `Full` come as in [`Work::item_at`].
     pub fn form_item_at(
         &mut self,
         alloc: Global,
@@ -89,11 +91,12 @@ impl<'a, B: BoardForms, S: CellStore<GameFacts<B>>> Work<'a, B, S> {
         )
     }
 
-    /// Makes the item of the canonical form of a sum, by the indexes of its options, with a cost of `extra` more, where `extra` is at
-    /// most 8. On each side, first stand the options that come from one term, and then those that come from the other. No two that
-    /// come from the same term may be comparable.
+    /// Makes the item of the canonical form of a sum, by the indexes of its options, with a cost of `extra` more, where
+    /// `extra` is at most 8. On each side, first stand the options that come from one term, and then those that come
+    /// from the other. No two that come from the same term may be comparable.
     ///
-    /// `Range` comes exactly where the game equals a number out of range; else `Depth` and `Full` as in [`Work::item_at`].
+    /// `Range` comes exactly where the game equals a number out of range; else `Depth` and `Full` as in
+    /// [`Work::item_at`].
     pub fn sum_item_at(
         &mut self,
         alloc: Global,

@@ -1,7 +1,8 @@
 //! The order of games and their canonical forms, on handles of a store, with exact costs.
 //!
-//! A work interns the games that it meets: each has an index in the work's arena, with its handle. The arena, the sums and forms that
-//! were made, and what games are known as, are the work's cache, [`Cache`]. Its entries are found by indexes.
+//! A work interns the games that it meets: each has an index in the work's arena, with its handle. The arena, the sums
+//! and forms that were made, and what games are known as, are the work's cache, [`Cache`]. Its entries are found by
+//! indexes.
 #![tactic(auto)]
 
 mod again;

@@ -1,8 +1,8 @@
 //! A hash index of hints: where the entries of a list are looked for.
 //!
-//! The entries are counted from 0, in the order in which they are added, each with a number. A table of slots says which of them
-//! may have a number, and the owner of the list looks at the entry itself. So a slot that says something wrong, or nothing for
-//! want of memory, only hides an entry.
+//! The entries are counted from 0, in the order in which they are added, each with a number. A table of slots says
+//! which of them may have a number, and the owner of the list looks at the entry itself. So a slot that says something
+//! wrong, or nothing for want of memory, only hides an entry.
 ghost use Rattle.std.specs.Prelude.{ℕ, Some, IfSome};
 
 use cg_nodes::Handle;
@@ -107,8 +107,8 @@ impl LossyIndex {
         None
     }
 
-    /// Adds the next entry, with this number. The table grows before more than half of its slots are filled; where there is no
-    /// memory for that, the entry may be hidden.
+    /// Adds the next entry, with this number. The table grows before more than half of its slots are filled; where
+    /// there is no memory for that, the entry may be hidden.
     #[inline(always)]
     pub fn add(&mut self, number: u32) {
         let entry = self.count;

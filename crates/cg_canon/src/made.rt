@@ -1,7 +1,7 @@
 //! Forms that were made, by the options that they were made from.
 //!
-//! Many boards lead to the same values, and what was made of the same options is found again here. A form that isn't kept is
-//! made anew.
+//! Many boards lead to the same values, and what was made of the same options is found again here. A form that isn't
+//! kept is made anew.
 ghost use Rattle.std.specs.Prelude.{◌≡◌, [], IfSome, IsTrue, OnErr};
 ghost use Rattle.cg_canon.specs.MadeForms.{IsKept, IsMade};
 
@@ -89,7 +89,8 @@ impl MadeForms {
         )
     }
 
-    /// Keeps the form that was made from these options, unless enough are kept. Nothing changes where there is no memory.
+    /// Keeps the form that was made from these options, unless enough are kept. Nothing changes where there is no
+    /// memory.
     pub fn keep(
         &mut self,
         lefts: &[Handle],

@@ -44,8 +44,8 @@ fn enter_form<B: BoardForms, S: CellStore<GameFacts<B>>>(
     let _entered = enter_game(store, interner, handle, lefts, rights, &new.summary);
 }
 
-/// The list of the Right options, where that of the Left options was made. The same options have the same list, as those of
-/// nimbers have, and nothing is claimed for it then.
+/// The list of the Right options, where that of the Left options was made. The same options have the same list, as
+/// those of nimbers have, and nothing is claimed for it then.
 fn second_list<B: BoardForms, S: CellStore<GameFacts<B>>>(
     store: &mut S,
     lefts: &[Handle],
@@ -64,8 +64,8 @@ fn second_list<B: BoardForms, S: CellStore<GameFacts<B>>>(
     list(store, rights)
 }
 
-/// The handle of the game whose options have these handles. All its cells are prefetched before the first is claimed, so
-/// that it needn't wait for one after another.
+/// The handle of the game whose options have these handles. All its cells are prefetched before the first is claimed,
+/// so that it needn't wait for one after another.
 fn claimed_game<B: BoardForms, S: CellStore<GameFacts<B>>>(
     store: &mut S,
     lefts: &[Handle],

@@ -1,6 +1,7 @@
 //! Numbers compared with the games of handles, and with those at indexes.
 //!
-//! No number is counted down and none is claimed: a number is compared with the cut that the game makes among the numbers.
+//! No number is counted down and none is claimed: a number is compared with the cut that the game makes among the
+//! numbers.
 ghost use Rattle.std.specs.Prelude.{◌≡◌, IfOk};
 ghost use Rattle.cg_form.specs.Game.{number};
 ghost use Rattle.cg_form.specs.Order.{le};

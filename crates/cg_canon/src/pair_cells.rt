@@ -52,8 +52,8 @@ fn ordered_pair<B: BoardForms, S: CellStore<GameFacts<B>>>(
 }
 
 impl<'a, B: BoardForms, S: CellStore<GameFacts<B>>> Work<'a, B, S> {
-    /// The cell of the pair of the two games, on which their sum is noted: one cell for either order of the two. It spends one
-    /// claim.
+    /// The cell of the pair of the two games, on which their sum is noted: one cell for either order of the two. It
+    /// spends one claim.
     pub fn pair_cell(&mut self, a: u32, b: u32) -> Id
         requires spare { 1 ≤ (work_state S.state self.old).spare }
         requires a { IsIndex self.old.arena a }

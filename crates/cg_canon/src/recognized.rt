@@ -1,6 +1,7 @@
 //! Games that are known as sums of a number, of ups or downs, and of a nimber, by their indexes.
 //!
-//! A game is recognized when it enters the arena: a number, a nimber, or ^. A game that isn't found here is summed by its options.
+//! A game is recognized when it enters the arena: a number, a nimber, or ^. A game that isn't found here is summed by
+//! its options.
 ghost use Rattle.std.specs.Prelude.{◌≡◌, ◌≤◌, ◌∷◌, [], List, IfSome, IsTrue, length, take};
 ghost use Rattle.cg_form.specs.Game.{Game, node};
 ghost use Rattle.cg_form.specs.Order.{Equal};

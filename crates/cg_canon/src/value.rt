@@ -18,7 +18,8 @@ use cg_nodes::{BoardForms, GameFacts, Handle};
 use smallvec::SmallVec;
 use std::alloc::{AllocError, Global};
 
-/// Puts the indexes of two lists of options into a form that has none. Both lists of a nimber are the same, and are gone through once.
+/// Puts the indexes of two lists of options into a form that has none. Both lists of a nimber are the same, and are
+/// gone through once.
 #[inline(always)]
 fn put_both<B: BoardForms, S: CellStore<GameFacts<B>>>(
     alloc: Global,

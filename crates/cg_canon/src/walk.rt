@@ -1,8 +1,9 @@
 //! The positions of a game of the arena, in order, each with the places of its options.
 //!
-//! A mark says at which place a game was found. The position at that place is read then, so a mark that a former walk left does no
-//! harm.
-ghost use Rattle.std.specs.Prelude.{◌≡◌, ℕ, ◌<◌, ◌≤◌, ◌^◌, ◌++◌, ◌∷◌, [], IfOk, IsTrue, List, OnOk, Err, get_or, length, false};
+//! A mark says at which place a game was found. The position at that place is read then, so a mark that a former walk
+//! left does no harm.
+ghost use Rattle.std.specs.Prelude.{◌≡◌, ℕ, ◌<◌, ◌≤◌, ◌^◌, ◌++◌, ◌∷◌, [], IfOk};
+ghost use Rattle.std.specs.Prelude.{IsTrue, List, OnOk, Err, get_or, length, false};
 ghost use Rattle.cg_form.specs.Canonical.{Canonical};
 ghost use Rattle.cg_form.specs.Extended.{positions_before};
 ghost use Rattle.cg_form.specs.Game.{Among, Game};
@@ -93,7 +94,8 @@ impl Walk {
         Ok(())
     }
 
-    /// The position of the game at the index, which is the next one. The places of its options are put behind the options.
+    /// The position of the game at the index, which is the next one. The places of its options are put behind the
+    /// options.
     pub(crate) fn position(
         &mut self,
         arena: &Arena,

@@ -10,8 +10,8 @@ use crate::walk::Walk;
 use cg_arena::{Arena, Read};
 use cg_nodes::PositionsFault;
 
-/// Puts the positions of the game at the index behind those that were found. A game that was found before has all of its positions
-/// there.
+/// Puts the positions of the game at the index behind those that were found. A game that was found before has all of
+/// its positions there.
 #[cycle(walk)]
 pub(crate) fn walk_index(
     arena: &Arena,

@@ -23,8 +23,8 @@ fn mark_all(marks: &mut Vec<usize>, count: usize) -> Result<(), AllocError>
 }
 
 impl<'a, B: BoardForms, S: CellStore<GameFacts<B>>> Work<'a, B, S> {
-    /// The positions of the game at the index. `Positions` comes exactly where there are more than this limit, and never at a limit of
-    /// 2^63 or more; the other error is want of memory.
+    /// The positions of the game at the index. `Positions` comes exactly where there are more than this limit, and
+    /// never at a limit of 2^63 or more; the other error is want of memory.
     pub fn walk_within(
         &mut self,
         alloc: Global,
@@ -54,8 +54,8 @@ impl<'a, B: BoardForms, S: CellStore<GameFacts<B>>> Work<'a, B, S> {
         Ok(walk)
     }
 
-    /// The positions of the game at the index. `Positions` comes exactly where there are more than the work's limit; the other error
-    /// is want of memory.
+    /// The positions of the game at the index. `Positions` comes exactly where there are more than the work's limit;
+    /// the other error is want of memory.
     pub fn walk(&mut self, alloc: Global, index: u32) -> Result<Walk, ValueFault>
         requires { IsIndex self.old.arena index }
         ensures walk { IfOk result (λ w. IsWalk self.old.arena w (positions_of (game_of self.old.arena index))) }

@@ -1,5 +1,6 @@
 //! A store with a meter, and with a cache of what was found out of its games.
-ghost use Rattle.std.specs.Prelude.{◌≡◌, ◌+◌, ◌<◌, ◌-◌, ◌≤◌, ◌^◌, ◌↔◌, IfOk, IfErr, IsTrue, OnOk, OnErr, [], ◌∷◌, false};
+ghost use Rattle.std.specs.Prelude.{◌≡◌, ◌+◌, ◌<◌, ◌-◌, ◌≤◌, ◌^◌, ◌↔◌, IfOk};
+ghost use Rattle.std.specs.Prelude.{IfErr, IsTrue, OnOk, OnErr, [], ◌∷◌, false};
 ghost use Rattle.cg_form.specs.Game.{Game};
 ghost use Rattle.cg_arena.specs.Summaries.{IsSummary};
 ghost use Rattle.cg_canon.specs.Cache.{CacheHolds};
@@ -20,8 +21,8 @@ use std::mem::replace;
 /// A store, with a meter of what was spent on it, a cache of what was found out of its games, and a limit on positions.
 ///
 /// What is spent is never above the share. The store has at least as much to spare as when the work began, less what is
-/// spent. A work is itself a [`CellStore`]: it knows and has noted what its store has, and its own spare is what was charged
-/// and not claimed, 0 at first.
+/// spent. A work is itself a [`CellStore`]: it knows and has noted what its store has, and its own spare is what was
+/// charged and not claimed, 0 at first.
 #[derive(Drop)]
 pub struct Work<'a, B: BoardForms, S: CellStore<GameFacts<B>>> {
     pub(crate) store: &'a mut S,
@@ -50,8 +51,8 @@ impl<'a, B: BoardForms, S: CellStore<GameFacts<B>>> Model for Work<'a, B, S> {
 }
 
 impl<'a, B: BoardForms, S: CellStore<GameFacts<B>>> Work<'a, B, S> {
-    /// A work on the store, which must have at least the share to spare, with this limit on positions. Nothing is spent, and
-    /// its own spare is 0.
+    /// A work on the store, which must have at least the share to spare, with this limit on positions. Nothing is
+    /// spent, and its own spare is 0.
     pub fn new(alloc: Global, store: &'a mut S, share: u64, positions: u64) -> Work<'a, B, S>
         requires { share ≤ (S.state store.old).spare }
         ensures same_reference { result.store.ghost_name ≡ store.entry.ghost_name }
@@ -64,8 +65,8 @@ impl<'a, B: BoardForms, S: CellStore<GameFacts<B>>> Work<'a, B, S> {
         Work::resume(store, share, positions, Cache::new(alloc))
     }
 
-    /// A work on the store, as [`Work::new`] begins it, that takes up the cache of an earlier work on this store, or on one that
-    /// knew no more.
+    /// A work on the store, as [`Work::new`] begins it, that takes up the cache of an earlier work on this store, or on
+    /// one that knew no more.
     pub fn resume(store: &'a mut S, share: u64, positions: u64, cache: Cache) -> Work<'a, B, S>
         requires spare { share ≤ (S.state store.old).spare }
         requires cache { CacheHolds (S.state store.old) cache }
@@ -121,8 +122,8 @@ impl<'a, B: BoardForms, S: CellStore<GameFacts<B>>> Work<'a, B, S> {
         store
     }
 
-    /// The cache, but for most answers to comparisons, for a later work on a store that knows at least as much. This work goes on
-    /// with an empty one.
+    /// The cache, but for most answers to comparisons, for a later work on a store that knows at least as much. This
+    /// work goes on with an empty one.
     pub fn take_cache(&mut self, alloc: Global) -> Cache
         ensures cache { CacheHolds (S.state self.old.store.now) result }
         ensures same { self.new ≡ record self.old { arena = [] } }

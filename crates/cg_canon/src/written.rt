@@ -36,8 +36,9 @@ impl<'a, B: BoardForms, S: CellStore<GameFacts<B>>> Work<'a, B, S> {
         Ok(all)
     }
 
-    /// What is written in the form of the game, which is canonical: a number, or the handles of the Left and of the Right
-    /// options. A game that was met before is read from the arena, and not from its cells. The only error is want of memory.
+    /// What is written in the form of the game, which is canonical: a number, or the handles of the Left and of the
+    /// Right options. A game that was met before is read from the arena, and not from its cells. The only error is want
+    /// of memory.
     pub fn written(&mut self, alloc: Global, a: Handle) -> Result<Written, AllocError>
         requires { IsGame (work_state S.state self.old) a }
         ensures written { IfOk result (λ r. IsWrittenAs (work_state S.state self.new) r (game_at (work_state S.state self.old) a)) }

@@ -5,7 +5,8 @@ use mathlib.Core.Logic.{dite}
 use native.Mathlib.Decide.{ℕ_discrete}
 use Rattle.cg_cells.specs.Meaning.{Meaning, IsInjective, IsLawful, spelled, level, Stands, Sound}
 use Rattle.cg_cells.specs.Words.{one_if, filled}
-use Rattle.cg_cells.proofs.Levels.{KeepsKeys, up_left, up_right, stands_one, stands_keeps, stands_key, stands_spells, spells_level, is_spelled, spells_grows, level_le}
+use Rattle.cg_cells.proofs.Levels.{KeepsKeys, up_left, up_right, stands_one, stands_keeps, stands_key}
+use Rattle.cg_cells.proofs.Levels.{stands_spells, spells_level, is_spelled, spells_grows, level_le}
 
 pub one_if-some : (k : ℕ) → k ≢ 0 → one_if k ≡ 1
 one_if-some zero n = absurd (n refl)

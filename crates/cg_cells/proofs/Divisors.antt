@@ -1,6 +1,7 @@
 -- Remainders by a reciprocal. q is the quotient that the reciprocal gives: it is the true one or one less.
 use Rattle.std.proofs.Common.{◌≡◌, ℕ, ◌+◌, ◌-◌, ◌*◌, ◌/◌, ◌%◌, ◌^◌, ◌<◌, ◌≤◌, sym, ap, ◌∙◌, subst, arith}
-use Rattle.std.proofs.Math.Nat.{le_of_mul-le-mul_right, lt_of_mul-lt-mul_right, mul-le-mul_right, mul-lt-mul_of_pos_right, mul_assoc, mul_comm, mul_right_comm, add-mul, add-mod_right, mod-eq_of_lt, add-mul-mod_self_right, div-mul-le_self, lt-div-mul-add}
+use Rattle.std.proofs.Math.Nat.{le_of_mul-le-mul_right, lt_of_mul-lt-mul_right, mul-le-mul_right, mul-lt-mul_of_pos_right, mul_assoc, mul_comm}
+use Rattle.std.proofs.Math.Nat.{mul_right_comm, add-mul, add-mod_right, mod-eq_of_lt, add-mul-mod_self_right, div-mul-le_self, lt-div-mul-add}
 
 -- n * r, r * d and q * w are the products that matter
 module _ (n d r q w : ℕ) where

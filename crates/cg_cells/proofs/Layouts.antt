@@ -1,5 +1,6 @@
 -- Parts and words: the parts of a word have that word, and parts that fit are those of their word.
-use Rattle.std.proofs.Common.{◌≡◌, ℕ, ℤ, pos, negsuc, ◌+◌, ◌-◌, ◌/◌, ◌%◌, ◌<◌, ◌≤◌, ◌⊎◌, Option, Some, None, IfSome, IfNone, IsSome, ◌≢◌, unsigned_abs, Bool, true, false, IsTrue, nat_lt, arith, rules, ap, sym, ◌∙◌, ◌==◌, ◌&&◌, ◌||◌, ◌^◌, refl, subst, if◌then◌else◌, add-one}
+use Rattle.std.proofs.Common.{◌≡◌, ℕ, ℤ, pos, negsuc, ◌+◌, ◌-◌, ◌/◌, ◌%◌, ◌<◌, ◌≤◌, ◌⊎◌, Option, Some, None, IfSome, IfNone, IsSome, ◌≢◌, unsigned_abs}
+use Rattle.std.proofs.Common.{Bool, true, false, IsTrue, nat_lt, arith, rules, ap, sym, ◌∙◌, ◌==◌, ◌&&◌, ◌||◌, ◌^◌, refl, subst, if◌then◌else◌, add-one}
 use Rattle.std.proofs.lemmas.Bool.Decides.{nat_tests}
 use Rattle.cg_cells.specs.declared.key.KeyParts.{KeyParts}
 use Rattle.cg_cells.specs.declared.key.KeyParts.TheVariants.{Number, Chunk, Cons, Game, Pair, Board, Long}

@@ -1,5 +1,6 @@
 -- The table at its start, draws, and passes that are split off and met keep the rule.
-use Rattle.std.proofs.Common.{◌≡◌, ◌≢◌, ℕ, zero, suc, ◌+◌, ◌-◌, ◌*◌, ◌^◌, ◌<◌, ◌≤◌, min, List, [], ◌∷◌, ◌++◌, set, replicate, Bool, true, false, refl, sym, ap, ◌∙◌, subst, ⊎_elim, arith, true≢false, get_or-set_same, lt-ltb, le-ltb, length-set}
+use Rattle.std.proofs.Common.{◌≡◌, ◌≢◌, ℕ, zero, suc, ◌+◌, ◌-◌, ◌*◌, ◌^◌, ◌<◌, ◌≤◌, min, List, [], ◌∷◌, ◌++◌, set, replicate, Bool, true}
+use Rattle.std.proofs.Common.{false, refl, sym, ap, ◌∙◌, subst, ⊎_elim, arith, true≢false, get_or-set_same, lt-ltb, le-ltb, length-set}
 use Rattle.std.specs.Prelude.{slice_index, if◌then◌else◌, nat_lt, ◌||◌}
 use Rattle.std.proofs.lemmas.List.{length-replicate}
 use Rattle.std.proofs.lemmas.Bool.Decides.{nat_tests}

@@ -6,9 +6,11 @@ use native.Mathlib.Decide.{ℕ_discrete}
 use Rattle.std.proofs.lemmas.Bool.Decides.{nat_tests}
 use Rattle.cg_cells.specs.Meaning.{Meaning, IsLawful}
 use Rattle.cg_cells.specs.Index.{place}
-use Rattle.cg_cells.specs.Views.{Sizes, ViewOf, Action, a_split, a_join, a_draw, a_look, a_read, a_probe, a_claim, a_note, makes, cells_of, knows, split_off, ended, after_note}
+use Rattle.cg_cells.specs.Views.{Sizes, ViewOf, Action, a_split, a_join, a_draw, a_look, a_read, a_probe}
+use Rattle.cg_cells.specs.Views.{a_claim, a_note, makes, cells_of, knows, split_off, ended, after_note}
 use Rattle.cg_cells.specs.Table.{IsAllowed, SoundAndPlaced, Whole, IsLive, value_at}
-use Rattle.cg_cells.specs.Steps.{Table, Step, split, join, draw, check, look, read, probe, claim, note, close, Leads, Finds, IsSearching, Run, opening, is_close, IsOpen, IsReachable}
+use Rattle.cg_cells.specs.Steps.{Table, Step, split, join, draw, check, look, read, probe, claim, note, close}
+use Rattle.cg_cells.specs.Steps.{Leads, Finds, IsSearching, Run, opening, is_close, IsOpen, IsReachable}
 use Rattle.cg_cells.specs.Sure.{Sure}
 use Rattle.cg_cells.proofs.Keeping.{makes_keeps, looks, reads, found, passes, won, notes, renotes}
 use Rattle.cg_cells.proofs.Moving.{draws, splits, joins, opens}

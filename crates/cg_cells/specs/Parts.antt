@@ -1,5 +1,6 @@
 -- The parts of a word, and the ids that a key names.
-use Rattle.std.specs.Prelude.{ℕ, zero, suc, ℤ, pos, negsuc, ◌+◌, ◌-◌, ◌/◌, ◌%◌, ◌^◌, ◌==◌, ◌&&◌, ◌||◌, Bool, true, if◌then◌else◌, Option, Some, None, List, [], ◌∷◌, unsigned_abs, nat_lt}
+use Rattle.std.specs.Prelude.{ℕ, zero, suc, ℤ, pos, negsuc, ◌+◌, ◌-◌, ◌/◌, ◌%◌, ◌^◌, ◌==◌, ◌&&◌, ◌||◌, Bool}
+use Rattle.std.specs.Prelude.{true, if◌then◌else◌, Option, Some, None, List, [], ◌∷◌, unsigned_abs, nat_lt}
 use Rattle.cg_cells.specs.declared.key.KeyParts.{KeyParts}
 use Rattle.cg_cells.specs.declared.key.KeyParts.TheVariants.{Number, Chunk, Cons, Game, Pair, Board, Long}
 use Rattle.cg_cells.specs.Layout.{word_of, id_field}

@@ -1,8 +1,10 @@
 -- The steps of the passes of a shared table. Each is one load, one exchange or one addition on one word, by one pass.
-use Rattle.std.specs.Prelude.{◌≡◌, ◌≢◌, ◌⊎◌, ℕ, ◌+◌, ◌<◌, ◌≤◌, List, [], ◌∷◌, ◌++◌, map, replicate, Bool, true, false, Option, Some, None, IsSome, if◌then◌else◌, ◌==◌, slice_index, slice_set}
+use Rattle.std.specs.Prelude.{◌≡◌, ◌≢◌, ◌⊎◌, ℕ, ◌+◌, ◌<◌, ◌≤◌, List, [], ◌∷◌, ◌++◌, map, replicate, Bool, true}
+use Rattle.std.specs.Prelude.{false, Option, Some, None, IsSome, if◌then◌else◌, ◌==◌, slice_index, slice_set}
 use Rattle.cg_cells.specs.Meaning.{Meaning}
 use Rattle.cg_cells.specs.Index.{place}
-use Rattle.cg_cells.specs.Views.{Sizes, ViewOf, Action, a_split, a_join, a_draw, a_look, a_read, a_probe, a_claim, a_note, cells_of, knows, makes, first_view, after_split, split_off, after_meet, ended, after_draw, after_claim, after_pass, after_note, after_look, after_read}
+use Rattle.cg_cells.specs.Views.{Sizes, ViewOf, Action, a_split, a_join, a_draw, a_look, a_read, a_probe, a_claim, a_note, cells_of, knows, makes, first_view}
+use Rattle.cg_cells.specs.Views.{after_split, split_off, after_meet, ended, after_draw, after_claim, after_pass, after_note, after_look, after_read}
 use Rattle.cg_cells.specs.Table.{IsAllowed, IsLive, key_at, value_at}
 
 -- a table's words, and the views of all its passes

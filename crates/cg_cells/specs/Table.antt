@@ -1,5 +1,6 @@
 -- The rule of the words of a shared table and of the views of its passes.
-use Rattle.std.specs.Prelude.{◌≡◌, ◌≢◌, ◌⊎◌, ℕ, ◌+◌, ◌-◌, ◌*◌, ◌^◌, ◌<◌, ◌≤◌, min, List, [], ◌∷◌, length, true, false, Some, if◌then◌else◌, nat_lt, ◌==◌, slice_index}
+use Rattle.std.specs.Prelude.{◌≡◌, ◌≢◌, ◌⊎◌, ℕ, ◌+◌, ◌-◌, ◌*◌, ◌^◌, ◌<◌, ◌≤◌, min, List, [], ◌∷◌}
+use Rattle.std.specs.Prelude.{length, true, false, Some, if◌then◌else◌, nat_lt, ◌==◌, slice_index}
 use mathlib.Core.Option.{some}
 use lib.ListN.{get_elem?}
 use Rattle.cg_cells.specs.Meaning.{Meaning, Has, Stands, Sound}

@@ -1,12 +1,14 @@
 -- The text of one answer: its letter, its digits, and the proof of what it leads to.
-use Rattle.std.proofs.Common.{◌≡◌, refl, ap, sym, ◌∙◌, append_assoc, append-nil, ℕ, ◌+◌, ◌-◌, ◌<◌, ◌^◌, List, [], ◌∷◌, ◌++◌, Option, Some, None, Bool, true, false, arith, drop, length, take}
+use Rattle.std.proofs.Common.{◌≡◌, refl, ap, sym, ◌∙◌, append_assoc, append-nil, ℕ, ◌+◌, ◌-◌, ◌<◌, ◌^◌, List}
+use Rattle.std.proofs.Common.{[], ◌∷◌, ◌++◌, Option, Some, None, Bool, true, false, arith, drop, length, take}
 use Rattle.std.specs.Prelude.{decimal, take_while}
 use Rattle.std.specs.List.{prefix_len}
 use Rattle.std.proofs.Math.Seq.{drop-append_seam, take-length}
 use Rattle.std.proofs.lemmas.Fmt.{decimal_injective}
 use Rattle.std.proofs.lemmas.List.{drop-drop, length-drop, take-append-drop}
 use Rattle.std.proofs.lemmas.List.Folds.{length-prefix_len}
-use Rattle.cg_cert.specs.Certificate.{Answer, Answers, Certificate, answer_in, answer_text, answers_text, certificate_text, in_first, in_second, no_answers, with_answer}
+use Rattle.cg_cert.specs.Certificate.{Answer, Answers, Certificate, answer_in, answer_text, answers_text}
+use Rattle.cg_cert.specs.Certificate.{certificate_text, in_first, in_second, no_answers, with_answer}
 use Rattle.cg_cert.specs.Pairs.{Pair, led}
 use Rattle.cg_cert.specs.Proves.{Proves, ProvesAll}
 use Rattle.cg_cert.specs.Reads.{IsByte, LeadsNowhere, LeadsTo, Reads, is_digit, letter_byte}

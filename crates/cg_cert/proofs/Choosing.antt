@@ -1,5 +1,6 @@
 -- The search for the first option that is good enough.
-use Rattle.std.proofs.Common.{◌≡◌, refl, ap, sym, ◌∙◌, ℕ, suc, ◌+◌, ◌≤◌, arith, Option, Some, None, option_map, slice_get, List, [], ◌∷◌, length, Bool, true, false, if◌then◌else◌}
+use Rattle.std.proofs.Common.{◌≡◌, refl, ap, sym, ◌∙◌, ℕ, suc, ◌+◌, ◌≤◌, arith, Option, Some, None, option_map}
+use Rattle.std.proofs.Common.{slice_get, List, [], ◌∷◌, length, Bool, true, false, if◌then◌else◌}
 use Rattle.cg_form.specs.Game.{Game}
 use Rattle.cg_form.specs.Side.{at_most}
 use Rattle.cg_cert.specs.declared.position.Position.{Position}

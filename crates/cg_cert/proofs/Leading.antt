@@ -1,5 +1,6 @@
 -- Where an answer leads: the option that stands in its place, beside the position that stays.
-use Rattle.std.proofs.Common.{◌≡◌, refl, ap, sym, ◌∙◌, ℕ, zero, suc, ◌<◌, ◌^◌, arith, Bool, true, false, Some, option_map, slice_get, get_or, List, [], ◌∷◌, length}
+use Rattle.std.proofs.Common.{◌≡◌, refl, ap, sym, ◌∙◌, ℕ, zero, suc, ◌<◌, ◌^◌, arith, Bool, true}
+use Rattle.std.proofs.Common.{false, Some, option_map, slice_get, get_or, List, [], ◌∷◌, length}
 use Rattle.std.proofs.lemmas.List.{length-map}
 use Rattle.cg_form.specs.Game.{Game, lefts, rights}
 use Rattle.cg_form.specs.Side.{near}

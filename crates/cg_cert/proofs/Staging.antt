@@ -4,7 +4,8 @@ use Rattle.cg_form.specs.Game.{Game, lefts, rights}
 use Rattle.cg_cert.specs.declared.position.Position.{Position}
 use Rattle.cg_cert.specs.declared.stage.Stage.{Stage}
 use Rattle.cg_cert.specs.Pairs.{moves, pair}
-use Rattle.cg_cert.specs.Positions.{ArePositions, ArePositionsOf, AreStages, AreStagesOf, IsPosition, IsStage, position_at, positions_at, stage_at, staged, stages_at}
+use Rattle.cg_cert.specs.Positions.{ArePositions, ArePositionsOf, AreStages, AreStagesOf, IsPosition}
+use Rattle.cg_cert.specs.Positions.{IsStage, position_at, positions_at, stage_at, staged, stages_at}
 
 module _ (arena : List Game) where
   are_staged : (b : Bool) (q : Position) (ps : List Position) → IsPosition arena q → ArePositions arena ps

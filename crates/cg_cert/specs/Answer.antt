@@ -1,5 +1,6 @@
 -- What is answered to the question for a proof that one game is at least another.
-use Rattle.std.specs.Prelude.{◌≡◌, ℕ, ◌<◌, ◌≤◌, List, [], ◌++◌, codes, decimal, length, string_bytes, String, Option, Some, None, Result, Ok, Err, if◌then◌else◌, slice_get}
+use Rattle.std.specs.Prelude.{◌≡◌, ℕ, ◌<◌, ◌≤◌, List, [], ◌++◌, codes, decimal, length, string_bytes}
+use Rattle.std.specs.Prelude.{String, Option, Some, None, Result, Ok, Err, if◌then◌else◌, slice_get}
 use Rattle.cg_form.specs.Game.{Game, lefts, rights}
 use Rattle.cg_form.specs.Order.{le}
 use Rattle.cg_cert.specs.declared.fault.CertFault.{CertFault}

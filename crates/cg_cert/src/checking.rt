@@ -18,8 +18,8 @@ use cg_cells::CellStore;
 use cg_nodes::{BoardForms, GameFacts, Handle};
 use std::alloc::{AllocError, Global};
 
-/// The pair to which the answer in the first game or in the second leads whose place has these digits; none where no option
-/// has that place.
+/// The pair to which the answer in the first game or in the second leads whose place has these digits; none where no
+/// option has that place.
 fn led<B: BoardForms, S: CellStore<GameFacts<B>>>(
     alloc: Global,
     work: &Work<B, S>,
@@ -57,8 +57,8 @@ fn check_settled<B: BoardForms, S: CellStore<GameFacts<B>>>(
     }
 }
 
-/// The place behind the answer to the move that led to the pair, with the proof of what it leads to, that stands at this
-/// place, if one does.
+/// The place behind the answer to the move that led to the pair, with the proof of what it leads to, that stands at
+/// this place, if one does.
 #[cycle(check)]
 fn check_reply<B: BoardForms, S: CellStore<GameFacts<B>>>(
     alloc: Global,

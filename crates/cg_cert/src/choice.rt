@@ -30,8 +30,8 @@ pub(crate) struct Move {
     pub leads: Stage,
 }
 
-/// The player's first option of the game that is for the player at least as good as the other game. The only error is want of
-/// memory.
+/// The player's first option of the game that is for the player at least as good as the other game. The only error is
+/// want of memory.
 fn first_choice<B: BoardForms, S: CellStore<GameFacts<B>>>(
     alloc: Global,
     work: &mut Work<B, S>,
@@ -62,7 +62,8 @@ fn first_choice<B: BoardForms, S: CellStore<GameFacts<B>>>(
     Ok(None)
 }
 
-/// The player's first move that serves, those in the first game before those in the second. The only error is want of memory.
+/// The player's first move that serves, those in the first game before those in the second. The only error is want of
+/// memory.
 pub(crate) fn first_move<B: BoardForms, S: CellStore<GameFacts<B>>>(
     alloc: Global,
     work: &mut Work<B, S>,

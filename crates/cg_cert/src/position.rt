@@ -45,8 +45,8 @@ fn position_le<B: BoardForms, S: CellStore<GameFacts<B>>>(
     }
 }
 
-/// Whether a is no better for the player than b; with `left` the player is Left, and else Right. The only error is want of
-/// memory.
+/// Whether a is no better for the player than b; with `left` the player is Left, and else Right. The only error is want
+/// of memory.
 pub(crate) fn no_better<B: BoardForms, S: CellStore<GameFacts<B>>>(
     work: &mut Work<B, S>,
     left: bool,

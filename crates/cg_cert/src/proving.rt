@@ -1,7 +1,7 @@
 //! Writing a proof that one game is at least another.
 //!
-//! The text is written once, and stops where it would be too long. Which answer is the first that serves is read from the
-//! order of pairs, each of which the work compares once.
+//! The text is written once, and stops where it would be too long. Which answer is the first that serves is read from
+//! the order of pairs, each of which the work compares once.
 ghost use Rattle.std.specs.Prelude.{◌≡◌, ◌≤◌, ◌∷◌, ◌++◌, [], decimal, length, string_bytes};
 ghost use Rattle.cg_cells.specs.Store.{Spends};
 ghost use Rattle.cg_nodes.specs.Games.{IsGame, game_at};
@@ -47,7 +47,8 @@ fn put_move<B: BoardForms, S: CellStore<GameFacts<B>>>(
     put_proof(alloc, work, limit, leads, text)
 }
 
-/// Puts the first answer that serves to the move that led to the pair behind the text, with the proof of what it leads to.
+/// Puts the first answer that serves to the move that led to the pair behind the text, with the proof of what it leads
+/// to.
 #[cycle(put)]
 fn put_reply<B: BoardForms, S: CellStore<GameFacts<B>>>(
     alloc: Global,
@@ -129,9 +130,9 @@ fn put_refusal<B: BoardForms, S: CellStore<GameFacts<B>>>(
     }
 }
 
-/// Whether g is at least h, and why: `yes ` and a proof, or `no ` and Right's first winning move with its proof, or `no .` for
-/// two numbers. Each answer in a proof is the first that serves. `Long` comes exactly where more than 65,536 bytes would
-/// follow the first word, and `Memory` is the other error.
+/// Whether g is at least h, and why: `yes ` and a proof, or `no ` and Right's first winning move with its proof, or `no
+/// .` for two numbers. Each answer in a proof is the first that serves. `Long` comes exactly where more than 65,536
+/// bytes would follow the first word, and `Memory` is the other error.
 pub fn prove<B: BoardForms, S: CellStore<GameFacts<B>>>(
     alloc: Global,
     work: &mut Work<B, S>,

@@ -1,5 +1,6 @@
 -- Captures in words.
-use Rattle.std.proofs.Common.{◌≡◌, refl, ℕ, ◌+◌, ◌-◌, ◌*◌, ◌%◌, ◌^◌, ◌<◌, ◌≤◌, ◌==◌, ◌&&◌, not, nat_lt, Bool, true, false, if◌then◌else◌, Option, Some, None, List, length, ◌∙◌, arith, bit_and}
+use Rattle.std.proofs.Common.{◌≡◌, refl, ℕ, ◌+◌, ◌-◌, ◌*◌, ◌%◌, ◌^◌, ◌<◌, ◌≤◌, ◌==◌, ◌&&◌, not, nat_lt, Bool}
+use Rattle.std.proofs.Common.{true, false, if◌then◌else◌, Option, Some, None, List, length, ◌∙◌, arith, bit_and}
 use Rattle.std.specs.Prelude.{codes}
 use Rattle.std.specs.Int.{bit_at}
 use Rattle.std.specs.Str.{bytes_eq}
@@ -89,7 +90,8 @@ module _ (player : Player) (p : Grid) where
       → Marks (bit_and stones moved) (captures_that_way player p Down)
   down_marks stones others moved are opposing rest =
       marks_same (bit_and stones moved) (λ i. stone_at i && other_at (i + p.columns)) (captures_that_way player p Down)
-      (λ i. down-test i (nat_lt (i + p.columns) (length p.cells)) (λ e. lt-ltb (i + p.columns) (length p.cells) (stone-inside p.cells (i + p.columns) (other player) (other-some player) e)))
+      (λ i. down-test i (nat_lt (i + p.columns) (length p.cells)) (λ e. lt-ltb (i + p.columns) (length p.cells) (stone-inside p.cells (i + p.columns)
+      (other player) (other-some player) e)))
       (marks_both stones moved stone_at (λ i. other_at (i + p.columns)) are (λ i. rest i ∙ opposing (i + p.columns)))
 
   -- back: not in the first column, and an opposing stone on the cell before

@@ -1,5 +1,6 @@
 -- Going over the cells with captures: from and onto the others no moves lead.
-use Rattle.std.proofs.Common.{◌≡◌, refl, ℕ, ◌+◌, ◌-◌, ◌^◌, ◌<◌, inl, inr, false, if◌then◌else◌, Option, Some, None, List, [], ◌∷◌, ◌++◌, length, map, ap, ◌∙◌, arith, bit_or, sym}
+use Rattle.std.proofs.Common.{◌≡◌, refl, ℕ, ◌+◌, ◌-◌, ◌^◌, ◌<◌, inl, inr, false, if◌then◌else◌, Option}
+use Rattle.std.proofs.Common.{Some, None, List, [], ◌∷◌, ◌++◌, length, map, ap, ◌∙◌, arith, bit_or, sym}
 use Rattle.std.specs.Int.{bit_at}
 use Rattle.std.proofs.lemmas.Nat.Bits.{bit_at-lt, bit_at_or, bit_at_ones}
 use Rattle.cg_moves.specs.declared.player.Player.{Player}

@@ -18,7 +18,8 @@ use Rattle.cg_clobber.specs.declared.way.Way.TheVariants.{Up, Down, Back, Forth}
 use Rattle.cg_clobber.specs.Moves.{captures, empty, moves_of, moves_onto, moves_that_way, next_cell, other, own, with_capture}
 use Rattle.cg_clobber.specs.Pairs.{by_pairs, onward, paired, toward, toward_back}
 use Rattle.cg_clobber.proofs.PairMoves.{pairs-moves}
-use Rattle.cg_clobber.proofs.PairOrder.{Puts, Taken, after-back, after-down, after-forth, after-up, back, down, forth, higher, lower, next-less, onward-puts, rises-both, rises-flat, same-first, toward-puts, up}
+use Rattle.cg_clobber.proofs.PairOrder.{Puts, Taken, after-back, after-down, after-forth, after-up, back, down, forth, higher}
+use Rattle.cg_clobber.proofs.PairOrder.{lower, next-less, onward-puts, rises-both, rises-flat, same-first, toward-puts, up}
 
 empty-less : (player : Player) → empty < own player
 empty-less Left = omega arith

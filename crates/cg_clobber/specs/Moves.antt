@@ -1,6 +1,7 @@
 -- Clobber: Left moves an `x` onto a neighbouring `o`, which is removed, and Right an `o` onto a neighbouring `x`. Neighbours
 -- share an edge.
-use Rattle.std.specs.Prelude.{ℕ, ◌+◌, ◌-◌, ◌%◌, ◌==◌, ◌&&◌, ◌||◌, Bool, false, nat_lt, if◌then◌else◌, Option, Some, None, List, [], ◌∷◌, codes, count_by, length, slice_index, slice_set}
+use Rattle.std.specs.Prelude.{ℕ, ◌+◌, ◌-◌, ◌%◌, ◌==◌, ◌&&◌, ◌||◌, Bool, false, nat_lt, if◌then◌else◌, Option}
+use Rattle.std.specs.Prelude.{Some, None, List, [], ◌∷◌, codes, count_by, length, slice_index, slice_set}
 use Rattle.std.specs.List.{flat_map}
 use Rattle.std.specs.Str.{bytes_eq}
 use Rattle.cg_moves.specs.declared.player.Player.{Player}

@@ -24,7 +24,8 @@ pub(crate) struct Stones {
     columns: u8,
 }
 
-/// The stones on the board, as the player sees them. The index of `x` is 1, and that of `o` is 2, so each has a word of its own.
+/// The stones on the board, as the player sees them. The index of `x` is 1, and that of `o` is 2, so each has a word of
+/// its own.
 #[inline(always)]
 fn stones_of(board: &Board, player: Player, first_column: u64) -> Stones
     requires symbols { board.now.symbols ≡ codes ".xo" }
@@ -97,8 +98,8 @@ fn captures_forth(board: &Board, player: Player, stones: Stones) -> u64
     stones.own & moved
 }
 
-/// The stones with which some player has a capture together with the cell below or the next one in the row, whichever of the
-/// two is the one that moves.
+/// The stones with which some player has a capture together with the cell below or the next one in the row, whichever
+/// of the two is the one that moves.
 pub(crate) fn moving_stones(board: &Board, first_column: u64) -> u64
     requires symbols { board.now.symbols ≡ codes ".xo" }
     requires first { Marks first_column (λ i. nat_lt i (length board.now.cells) && (i % board.now.columns == 0)) }

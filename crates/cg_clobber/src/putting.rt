@@ -167,8 +167,8 @@ pub(crate) fn put_onward(
     }
 }
 
-/// Puts the board after the move of the player's stone that stands so many cells behind this one that way behind the boards, if
-/// it captures.
+/// Puts the board after the move of the player's stone that stands so many cells behind this one that way behind the
+/// boards, if it captures.
 #[inline(always)]
 fn put_move_from(
     board: &Board,
@@ -193,8 +193,8 @@ fn put_move_from(
     }
 }
 
-/// Puts the boards after the player's moves onto this cell from the next one in its row and from the one below it behind the
-/// boards, in rising order.
+/// Puts the boards after the player's moves onto this cell from the next one in its row and from the one below it
+/// behind the boards, in rising order.
 pub(crate) fn put_toward(
     board: &Board,
     player: Player,

@@ -16,8 +16,8 @@ use cg_moves::{Board, Boards, Pieces, Player, Rules};
 use cg_pieces::{NeighbourRules, pieces, pieces_into};
 use std::alloc::{AllocError, Global};
 
-/// The rules of Clobber. The symbols are `.` for an empty cell, `x` for a stone of Left and `o` for one of Right. A player
-/// moves a stone onto a neighbouring one of the other player, which is removed.
+/// The rules of Clobber. The symbols are `.` for an empty cell, `x` for a stone of Left and `o` for one of Right. A
+/// player moves a stone onto a neighbouring one of the other player, which is removed.
 pub struct Clobber;
 
 /// Puts the boards after the player's moves from each cell onto later ones behind the boards, from the first cell on.
@@ -84,8 +84,8 @@ fn put_all_paired(
     Ok(())
 }
 
-/// Puts the boards after the player's moves, by the first of the two cells that a move changes, in the place of these boards.
-/// They are in rising order: a move of Left lowers this cell or raises it, and one of Right lowers it.
+/// Puts the boards after the player's moves, by the first of the two cells that a move changes, in the place of these
+/// boards. They are in rising order: a move of Left lowers this cell or raises it, and one of Right lowers it.
 fn boards_in(board: &Board, player: Player, boards: &mut Vec<Board>) -> Result<(), AllocError>
     requires { clobber.has board.now ≡ true }
     ensures { IfOk result (λ _. boards.new.items ≡ map (with_cells board.now) (by_pairs player board.now)) }

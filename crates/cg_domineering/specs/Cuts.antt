@@ -49,7 +49,8 @@ pub record Fitting (player : Player) (p : Grid) (k l : ℕ) : Type 0 where
 pub may-fits : (player : Player) (p : Grid) (k l : ℕ) → 0 < p.columns → may_move dominoes player p k l ≡ true
     → Fitting player p k l
 may-fits player p k l wide t =
-    let both = and-split (is_empty p.cells k && is_empty p.cells l) (is_next p.columns k l && lies player (is_below p.columns k l) (is_beside p.columns k l)) t in
+    let both = and-split (is_empty p.cells k && is_empty p.cells l) (is_next p.columns k l && lies player (is_below p.columns k l) (is_beside p.columns k l)) t
+    in
     let cells = and-split (is_empty p.cells k) (is_empty p.cells l) both.0 in
     let way = and-split (is_next p.columns k l) (lies player (is_below p.columns k l) (is_beside p.columns k l)) both.1 in
     go player cells.0 cells.1 way.1
@@ -91,7 +92,8 @@ domineering_cuts = record {
       };
   move = λ player p k l has t.
       let w = may-fits player p k l (board-wide (codes ".#") p has) t in
-      let cells = and-split (is_empty p.cells k && is_empty p.cells l) (is_next p.columns k l && lies player (is_below p.columns k l) (is_beside p.columns k l)) t in
+      let cells = and-split (is_empty p.cells k && is_empty p.cells l) (is_next p.columns k l && lies player (is_below p.columns k l) (is_beside p.columns k l))
+      t in
       let k_empty = (and-split (is_empty p.cells k) (is_empty p.cells l) cells.0).0 in
       rw w.other
       (at-listed (moves_at player p) (length p.cells) (with_domino player p k) k

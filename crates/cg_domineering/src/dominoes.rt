@@ -11,8 +11,8 @@ use cg_moves::{Board, Boards, Pieces, Planes, Player, Rules, push};
 use cg_pieces::{NeighbourRules, pieces, pieces_into};
 use std::alloc::{AllocError, Global};
 
-/// The rules of Domineering. The symbols are `.` for an empty cell and `#` for a filled one. Left fills two empty cells, one
-/// above the other, and Right two empty cells side by side.
+/// The rules of Domineering. The symbols are `.` for an empty cell and `#` for a filled one. Left fills two empty
+/// cells, one above the other, and Right two empty cells side by side.
 pub struct Domineering;
 
 /// The other cell of the player's domino that fits with this first cell.
@@ -49,8 +49,8 @@ fn placed(board: &Board, player: Player, first: u8) -> Board
     board.with_planes(board.rows(), board.columns(), planes)
 }
 
-/// Puts the boards after the player's dominoes, by their first cells, in the place of these boards. They are in rising order,
-/// since a filled cell is below an empty one.
+/// Puts the boards after the player's dominoes, by their first cells, in the place of these boards. They are in rising
+/// order, since a filled cell is below an empty one.
 fn boards_in(board: &Board, player: Player, boards: &mut Vec<Board>) -> Result<(), AllocError>
     requires { domineering.has board.now ≡ true }
     ensures { IfOk result (λ _. boards.new.items ≡ map (with_cells board.now) (moves_of player board.now)) }

@@ -40,8 +40,8 @@ pub(crate) fn right_spots(board: &Board, empty: u64, first: u64) -> u64
     empty & beside
 }
 
-/// Where the player's dominoes fit: bit i is 1 exactly where one fits with its first cell at cell i, the upper or the left
-/// one. The board must be one of Domineering.
+/// Where the player's dominoes fit: bit i is 1 exactly where one fits with its first cell at cell i, the upper or the
+/// left one. The board must be one of Domineering.
 pub fn spots(board: &Board, player: Player) -> u64
     requires { domineering.has board.now ≡ true }
     ensures { Marks result (fits player board.now) }

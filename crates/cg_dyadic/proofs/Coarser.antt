@@ -1,10 +1,12 @@
 -- The search at a scale, one scale coarser, and at the coarsest scale at which a unit lies between the ends.
-use Rattle.std.proofs.Common.{◌≡◌, refl, ℕ, ◌+◌, ◌-◌, ◌%◌, ◌<◌, ◌≤◌, arith, zero, suc, Bool, true, false, ap, sym, ◌∙◌, ℤ, pos, negsuc, ◌+ℤ◌, ◌≤ℤ◌, ◌<ℤ◌, unsigned_abs, ◌⊎◌, inl, inr}
+use Rattle.std.proofs.Common.{◌≡◌, refl, ℕ, ◌+◌, ◌-◌, ◌%◌, ◌<◌, ◌≤◌, arith, zero, suc, Bool, true, false}
+use Rattle.std.proofs.Common.{ap, sym, ◌∙◌, ℤ, pos, negsuc, ◌+ℤ◌, ◌≤ℤ◌, ◌<ℤ◌, unsigned_abs, ◌⊎◌, inl, inr}
 use Rattle.std.proofs.lemmas.Int.{ints}
 use Rattle.std.specs.Prelude.{Option, Some, None, if◌then◌else◌}
 use lib.Signed.{lt_z}
 use Rattle.cg_dyadic.specs.Number.{Number, between, half, is_even, ratio, whole}
-use Rattle.cg_dyadic.specs.Search.{AtLeast, AtMost, AtScale, Coarsest, FoundAt, coarse_high, coarse_low, crossed, half_of_high, half_of_low, high_at, low_at, nearest}
+use Rattle.cg_dyadic.specs.Search.{AtLeast, AtMost, AtScale, Coarsest, FoundAt, coarse_high, coarse_low}
+use Rattle.cg_dyadic.specs.Search.{crossed, half_of_high, half_of_low, high_at, low_at, nearest}
 use Rattle.cg_dyadic.specs.Simplest.{NoOptionPasses}
 use Rattle.cg_dyadic.specs.Units.{units}
 use Rattle.cg_dyadic.proofs.Integers.{even_half, from_lt_z, half_floor, lt_cases, not_lt_z}

@@ -4,7 +4,8 @@ use Rattle.std.proofs.lemmas.Int.{ints}
 use Rattle.cg_dyadic.specs.Number.{AmongNumbers, InRange, Number, NumberLe, between, exp_of, num_of, number_lefts, number_rights, ratio, whole}
 use Rattle.cg_dyadic.specs.Units.{doubled, units}
 use Rattle.cg_dyadic.proofs.Integers.{abs_tells, le_or_gt, le_or_lt, to_le_z}
-use Rattle.cg_dyadic.proofs.Scale.{cross, doubled-at, doubled-le, exp-ratio, le-units, not_le-units, units-between, units-le, units-left, units-own, units-ratio, units-suc}
+use Rattle.cg_dyadic.proofs.Scale.{cross, doubled-at, doubled-le, exp-ratio, le-units, not_le-units}
+use Rattle.cg_dyadic.proofs.Scale.{units-between, units-le, units-left, units-own, units-ratio, units-suc}
 
 -- ---- the order
 

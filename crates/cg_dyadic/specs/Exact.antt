@@ -1,5 +1,6 @@
 -- Exact results of arithmetic, and texts.
-use Rattle.std.specs.Prelude.{◌+◌, ℕ, ℤ, pos, neg_ℤ, Bool, true, false, ◌^◌, ◌%◌, ◌⊎◌, ◌==◌, ◌≡◌, ◌+ℤ◌, ◌*ℤ◌, List, [], ◌++◌, if◌then◌else◌, codes, decimal, Option, Some, None, Result, Ok, Err}
+use Rattle.std.specs.Prelude.{◌+◌, ℕ, ℤ, pos, neg_ℤ, Bool, true, false, ◌^◌, ◌%◌, ◌⊎◌, ◌==◌, ◌≡◌, ◌+ℤ◌, ◌*ℤ◌, List}
+use Rattle.std.specs.Prelude.{[], ◌++◌, if◌then◌else◌, codes, decimal, Option, Some, None, Result, Ok, Err}
 use Rattle.std.specs.Fmt.{signed_decimal}
 use Rattle.cg_dyadic.specs.declared.fault.RangeFault.{RangeFault}
 use Rattle.cg_dyadic.specs.Number.{InRange, IsFraction, Number, exp_of, num_of, ratio}

@@ -1,6 +1,7 @@
 -- Dyadic numbers in lowest terms, with no bound.
 -- Siegel, Combinatorial Game Theory (2013), II.3: the dyadic rationals and their canonical forms.
-use Rattle.std.specs.Prelude.{ℕ, ℤ, pos, negsuc, Bool, ◌+◌, ◌/◌, ◌%◌, ◌^◌, ◌==◌, ◌+ℤ◌, List, [], ◌∷◌, if◌then◌else◌, zero, suc, ◌<◌, ◌≤◌, IsTrue, unsigned_abs, nat_lt, not, ◌&&◌, ◌⊎◌, ◌≡◌}
+use Rattle.std.specs.Prelude.{ℕ, ℤ, pos, negsuc, Bool, ◌+◌, ◌/◌, ◌%◌, ◌^◌, ◌==◌, ◌+ℤ◌, List, [], ◌∷◌, if◌then◌else◌}
+use Rattle.std.specs.Prelude.{zero, suc, ◌<◌, ◌≤◌, IsTrue, unsigned_abs, nat_lt, not, ◌&&◌, ◌⊎◌, ◌≡◌}
 use Rattle.std.specs.declared.cmp.Ordering.{Ordering}
 use Rattle.std.specs.declared.cmp.Ordering.TheVariants.{Less, Equal, Greater}
 use lib.IntN.{◌*ℤ◌}

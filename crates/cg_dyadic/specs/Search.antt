@@ -1,6 +1,7 @@
 -- The search for the simplest number between two cuts: ends of a gap in units of a scale, and the coarsest scale at
 -- which some unit lies between the ends.
-use Rattle.std.specs.Prelude.{pos, neg_ℤ, ◌^◌, if◌then◌else◌, ℕ, ℤ, Bool, true, false, ◌≡◌, ◌≤◌, ◌<◌, ◌-◌, zero, suc, IsTrue, unsigned_abs, Option, Some, None, ◌+ℤ◌, ◌-ℤ◌}
+use Rattle.std.specs.Prelude.{pos, neg_ℤ, ◌^◌, if◌then◌else◌, ℕ, ℤ, Bool, true, false, ◌≡◌, ◌≤◌, ◌<◌}
+use Rattle.std.specs.Prelude.{◌-◌, zero, suc, IsTrue, unsigned_abs, Option, Some, None, ◌+ℤ◌, ◌-ℤ◌}
 use lib.Signed.{◌≤ℤ◌, lt_z}
 use Rattle.cg_dyadic.specs.declared.cut.Cut.{Cut}
 use Rattle.cg_dyadic.specs.Exact.{IsLowest}

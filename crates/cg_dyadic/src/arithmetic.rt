@@ -1,5 +1,6 @@
 //! Sums, halves and negatives: each is exact, or refused with the exact result.
-ghost use Rattle.std.specs.Prelude.{◌≡◌, ◌+◌, ◌*◌, ◌^◌, ◌<◌, ◌≤◌, ◌+ℤ◌, ◌*ℤ◌, pos, neg_ℤ, if◌then◌else◌, unsigned_abs, IfSome, IsNone};
+ghost use Rattle.std.specs.Prelude.{◌≡◌, ◌+◌, ◌*◌, ◌^◌, ◌<◌, ◌≤◌, ◌+ℤ◌, ◌*ℤ◌, pos, neg_ℤ};
+ghost use Rattle.std.specs.Prelude.{if◌then◌else◌, unsigned_abs, IfSome, IsNone};
 ghost use Rattle.cg_dyadic.specs.Number.{num_of, exp_of, ratio, InRange};
 ghost use Rattle.cg_dyadic.specs.Exact.{IsExact, IsLowest, IsNegative, signed_of, sum_num};
 

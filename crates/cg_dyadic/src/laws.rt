@@ -1,6 +1,7 @@
 //! Laws of numbers: each function does nothing, and its contract is the law.
 ghost use Rattle.std.specs.Prelude.{◌≡◌, ◌⊎◌, ◌↔◌, ◌<◌, ℤ, pos, ℕ, Bool, Option};
-ghost use Rattle.cg_dyadic.specs.Number.{Number, whole, num_of, exp_of, IsFraction, ratio, NumberLe, number_lefts, number_rights, AmongNumbers, weight, InRange};
+ghost use Rattle.cg_dyadic.specs.Number.{Number, whole, num_of, exp_of, IsFraction, ratio, NumberLe};
+ghost use Rattle.cg_dyadic.specs.Number.{number_lefts, number_rights, AmongNumbers, weight, InRange};
 ghost use Rattle.cg_dyadic.specs.Exact.{IsSum, IsNegative};
 ghost use Rattle.cg_dyadic.specs.Cut.{in_gap, is_between};
 ghost use Rattle.cg_dyadic.specs.Simplest.{NoOptionPasses, SimplestFor};
@@ -22,8 +23,8 @@ pub fn order()
     ensures dense { (x y : Number) → ¬ NumberLe y x → (z : Number) × (¬ NumberLe z x) × (¬ NumberLe y z) }
 {}
 
-/// Any two numbers have a sum, and any number a negative. Sums don't depend on the order of the terms, keep the order of
-/// numbers, and give 0 for a number and its negative; negatives turn the order.
+/// Any two numbers have a sum, and any number a negative. Sums don't depend on the order of the terms, keep the order
+/// of numbers, and give 0 for a number and its negative; negatives turn the order.
 pub fn arithmetic()
     ensures sum_exists { (x y : Number) → (z : Number) × IsSum x y z }
     ensures sum_commutes { (x y z : Number) → IsSum x y z → IsSum y x z }

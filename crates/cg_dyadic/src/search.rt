@@ -3,12 +3,15 @@
 //! The ends of the gap are taken in units of 1/2^41, which is finer than any number in range. The scales are tried from
 //! whole numbers on, each twice as fine as the one before, until some unit lies between the ends: at the scale of whole
 //! numbers the integer nearest 0 is the simplest, and at any other scale the ends meet at one odd number of units.
-ghost use Rattle.std.specs.Prelude.{◌≡◌, ◌≤◌, ◌^◌, ◌<◌, ◌+ℤ◌, ◌≤ℤ◌, ℤ, Bool, pos, negsuc, unsigned_abs, false, ◌-ℤ◌, IsTrue, ◌↔◌, IfOk, IfErr, IfSome, IsNone};
+ghost use Rattle.std.specs.Prelude.{◌≡◌, ◌≤◌, ◌^◌, ◌<◌, ◌+ℤ◌, ◌≤ℤ◌, ℤ, Bool, pos, negsuc, unsigned_abs};
+ghost use Rattle.std.specs.Prelude.{false, ◌-ℤ◌, IsTrue, ◌↔◌, IfOk, IfErr, IfSome, IsNone};
 ghost use Rattle.cg_dyadic.specs.Number.{Number, half, exp_of};
 ghost use Rattle.cg_dyadic.specs.Units.{units};
 ghost use Rattle.cg_dyadic.specs.Simplest.{Apart, SimplestFor, strictly_between, SimplestIsOutside};
 ghost use Rattle.cg_dyadic.specs.Cut.{in_gap, FoundIs, SimplestBetween, NoneBetween};
-ghost use Rattle.cg_dyadic.specs.Search.{AtLeast, AtMost, AtScale, FoundAt, first_unit, last_unit, ShortCut, SmallAround, Small, SmallEnd, low_at, high_at, Coarsest, crossed, nearest, closed_cut};
+ghost use Rattle.cg_dyadic.specs.Search.{AtLeast, AtMost, AtScale, FoundAt, first_unit, last_unit};
+ghost use Rattle.cg_dyadic.specs.Search.{ShortCut, SmallAround, Small, SmallEnd, low_at, high_at};
+ghost use Rattle.cg_dyadic.specs.Search.{Coarsest, crossed, nearest, closed_cut};
 
 use crate::cut::{Cut, Found};
 use crate::order::scaled;

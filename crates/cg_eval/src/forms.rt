@@ -9,8 +9,8 @@ ghost use Rattle.cg_values.specs.Notes.{MayNote};
 use cg_nodes::BoardForms;
 
 /// The boards of the numbered games: each board cell has the tree of all moves from its position. Domineering has the
-/// number 1, Clobber 2, Amazons 3, and Toads and Frogs 4; cells of other numbers, of which there are none, have the form
-/// of the number 0.
+/// number 1, Clobber 2, Amazons 3, and Toads and Frogs 4; cells of other numbers, of which there are none, have the
+/// form of the number 0.
 pub struct CgBoards;
 
 impl BoardForms for CgBoards {

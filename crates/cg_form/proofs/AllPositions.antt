@@ -8,7 +8,8 @@ use Rattle.cg_form.specs.Extended.{IsClosed, extended, positions_before}
 use Rattle.cg_form.specs.Game.{Among, Game, Games, IsNode, lefts, more, none, number, options, rights, to_list}
 use Rattle.cg_form.specs.Positions.{EachOnce, all_positions, positions_in, positions_of}
 use Rattle.cg_form.proofs.Among.{among-append, among-append_left, among-append_right, carry}
-use Rattle.cg_form.proofs.Firsts.{extended-among, extended-append, extended-has, extended-once, extended-there, in_or_not, once-extended, one_more-new, one_more-there}
+use Rattle.cg_form.proofs.Firsts.{extended-among, extended-append, extended-has, extended-once}
+use Rattle.cg_form.proofs.Firsts.{extended-there, in_or_not, once-extended, one_more-new, one_more-there}
 use Rattle.cg_form.proofs.Structure.{games}
 
 -- ---- all positions

@@ -1,5 +1,6 @@
 -- Lists in which each thing is kept only where it comes first, over any type with a test of sameness.
-use Rattle.std.proofs.Common.{◌≡◌, refl, ◌≤◌, Bool, true, false, not, cond, ◌&&◌, ◌||◌, if◌then◌else◌, ◌⊎◌, inl, inr, List, [], ◌∷◌, ◌++◌, filter, length, length-append, append_assoc, arith, ap, sym, ◌∙◌}
+use Rattle.std.proofs.Common.{◌≡◌, refl, ◌≤◌, Bool, true, false, not, cond, ◌&&◌, ◌||◌, if◌then◌else◌, ◌⊎◌, inl, inr}
+use Rattle.std.proofs.Common.{List, [], ◌∷◌, ◌++◌, filter, length, length-append, append_assoc, arith, ap, sym, ◌∙◌}
 use Rattle.std.proofs.lemmas.List.{append-nil}
 use Rattle.cg_form.specs.Firsts.{EachOnce, In, extended, is_in, once, one_more, without}
 

@@ -13,7 +13,8 @@ use Rattle.cg_form.proofs.Integers.{some_lefts, some_rights}
 use Rattle.cg_form.proofs.Preorder.{equal_refl, le_trans, not_le-left, not_le-right}
 use Rattle.cg_form.proofs.Simplicity.{le-number, none_fits, number-le}
 use Rattle.cg_form.proofs.Size.{size-lefts, size-rights}
-use Rattle.cg_form.proofs.Stops.{LeftStop, RightStop, equal-left_stop, equal-right_stop, greater-left_stop, less-right_stop, number-left_stop, number-right_stop, stops-ordered}
+use Rattle.cg_form.proofs.Stops.{LeftStop, RightStop, equal-left_stop, equal-right_stop, greater-left_stop}
+use Rattle.cg_form.proofs.Stops.{less-right_stop, number-left_stop, number-right_stop, stops-ordered}
 
 -- ---- the greatest of a list
 

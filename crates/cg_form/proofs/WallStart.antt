@@ -1,5 +1,6 @@
 -- At t = 0 the walls of a game are its stops, so the left scaffold is at least the right one.
-use Rattle.std.proofs.Common.{◌≡◌, refl, ℕ, ◌-◌, ◌<◌, ◌≤◌, arith, zero, suc, Bool, true, false, inl, inr, ap, sym, ◌∙◌, List, [], ◌∷◌, map, cond, ℤ, pos, ◌+ℤ◌, ◌-ℤ◌, ◌≤ℤ◌}
+use Rattle.std.proofs.Common.{◌≡◌, refl, ℕ, ◌-◌, ◌<◌, ◌≤◌, arith, zero, suc, Bool, true, false, inl}
+use Rattle.std.proofs.Common.{inr, ap, sym, ◌∙◌, List, [], ◌∷◌, map, cond, ℤ, pos, ◌+ℤ◌, ◌-ℤ◌, ◌≤ℤ◌}
 use Rattle.std.proofs.lemmas.Int.{ints}
 use lib.Signed.{le_z}
 use Rattle.cg_dyadic.specs.Number.{Number, exp_of, number_le, whole}

@@ -64,4 +64,5 @@ abbrev mutual
       built-signs g (list_signs gs (inr 1 ∷ k)) st ∙ built-list_signs gs (inr 1 ∷ k) (g ∷ st)
 
 abbrev pub game_code : Coded Game
-game_code = code_by (List Sign) (coded_list (coded⊎ number_code coded_ℕ)) (λ g. signs g []) (λ ss. first_game (built ss [])) (λ g. ap first_game (built-signs g [] []))
+game_code = code_by (List Sign) (coded_list (coded⊎ number_code coded_ℕ)) (λ g. signs g []) (λ ss. first_game (built ss [])) (λ g. ap first_game (built-signs g
+    [] []))

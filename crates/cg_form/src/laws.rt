@@ -140,9 +140,9 @@ pub fn l5()
         → Among (number x) (lefts a) → Le g (number x) → RightBelow g a x }
 {}
 
-/// A number has no positions but itself. `is_same` tests whether two games are one tree. Of any game, the positions are those
-/// that play can come to, each once; the game itself is the last; the options of a position that isn't a number stand before
-/// it; and those of a canonical game are canonical.
+/// A number has no positions but itself. `is_same` tests whether two games are one tree. Of any game, the positions are
+/// those that play can come to, each once; the game itself is the last; the options of a position that isn't a number
+/// stand before it; and those of a canonical game are canonical.
 pub fn position_lists()
     ensures number { (x : Number) → positions_of (number x) ≡ number x ∷ [] }
     ensures same { (g h : Game) → (is_same g h ≡ true) ↔ (g ≡ h) }

@@ -5,9 +5,11 @@ use Rattle.std.proofs.lemmas.Bool.{and_parts, and_from}
 use Rattle.cg_reading.specs.Bytes.{Class, has, Ends}
 use Rattle.cg_reading.specs.Pieces.{Piece, Then, Or, Many, Made, Nothing, One, Longest}
 use Rattle.cg_reading.specs.Tokens.{only, blank, digits, blanks, gap, behind_blanks, with_blanks}
-use Rattle.cg_reading.proofs.Same.{Same, same_self, same_back, same_on, then_same, or_same, made_same, many_same, made_twice, made_first, made_second, then_then, blanks_behind_made, blanks_behind_then, blanks_behind_list}
+use Rattle.cg_reading.proofs.Same.{Same, same_self, same_back, same_on, then_same, or_same, made_same, many_same, made_twice}
+use Rattle.cg_reading.proofs.Same.{made_first, made_second, then_then, blanks_behind_made, blanks_behind_then, blanks_behind_list}
 use Rattle.cg_grammar.specs.Found.{Found}
-use Rattle.cg_grammar.specs.Values.{ups_tree, Last, In_none, In_arrows, goes_on, Counted, whole, times, counted_goes_on, counted_of, with_tail, clean, negated, sum_of, run_side, braces_of}
+use Rattle.cg_grammar.specs.Values.{ups_tree, Last, In_none, In_arrows, goes_on, Counted, whole, times, counted_goes_on}
+use Rattle.cg_grammar.specs.Values.{counted_of, with_tail, clean, negated, sum_of, run_side, braces_of}
 use Rattle.cg_grammar.specs.Grammar as s
 use Rattle.cg_grammar.specs.Grammar.{Bars_side}
 use Rattle.cg_grammar.specs.Reading.{Behind, Over, Times, counted_from, behind_goes_on}

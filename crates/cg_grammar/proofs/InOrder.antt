@@ -1,5 +1,6 @@
 -- In each line the parts of a brace stand one behind the other, and a fault lies within the text that has it.
-use Rattle.std.proofs.Common.{◌≡◌, ℕ, zero, suc, ◌+◌, ◌≤◌, ◌<◌, ◌⊎◌, inl, inr, Bool, true, false, List, [], ◌∷◌, ◌++◌, length, map, Option, Some, None, ap, sym, subst, ◌∙◌, arith, length-append}
+use Rattle.std.proofs.Common.{◌≡◌, ℕ, zero, suc, ◌+◌, ◌≤◌, ◌<◌, ◌⊎◌, inl, inr, Bool, true, false, List, [], ◌∷◌}
+use Rattle.std.proofs.Common.{◌++◌, length, map, Option, Some, None, ap, sym, subst, ◌∙◌, arith, length-append}
 use Rattle.cg_reading.specs.Bytes.{Class}
 use Rattle.cg_reading.specs.Pieces.{Piece, Then, Or, Many, Made, Longest, Nothing, One}
 use Rattle.cg_reading.specs.Tokens.{blanks, behind_blanks, with_blanks}

@@ -27,7 +27,8 @@ use Rattle.cg_grammar.proofs.Factored as g
 use Rattle.cg_grammar.proofs.Plain.{whole_special_is}
 use Rattle.cg_grammar.proofs.FreeWords.{other_name, no_few}
 use Rattle.cg_grammar.proofs.TokenProductions.{number_text, number_follow, string_ok, string_text, plain_special_ok}
-use Rattle.cg_grammar.proofs.TermProductions.{spaced_follow, sum_follow, token_bytes, letters_bound, next_term_ok, sum_ok, sum_text, next_item_ok, row_reads_ok, braces_ok, paren_ok}
+use Rattle.cg_grammar.proofs.TermProductions.{spaced_follow, sum_follow, token_bytes, letters_bound, next_term_ok}
+use Rattle.cg_grammar.proofs.TermProductions.{sum_ok, sum_text, next_item_ok, row_reads_ok, braces_ok, paren_ok}
 
 -- ---- any number of brackets
 

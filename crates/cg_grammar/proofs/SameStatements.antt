@@ -1,5 +1,6 @@
 -- Lines of both formats, as the grammar has them and as they are read.
-use Rattle.std.proofs.Common.{◌≡◌, ℕ, ◌+◌, ◌≤◌, ◌⊎◌, inl, inr, Bool, true, false, cond, ◌||◌, not, List, [], ◌∷◌, ◌++◌, length, refl, ap, sym, subst, ◌∙◌, append_assoc, length-append, arith}
+use Rattle.std.proofs.Common.{◌≡◌, ℕ, ◌+◌, ◌≤◌, ◌⊎◌, inl, inr, Bool, true, false, cond, ◌||◌, not, List, [], ◌∷◌}
+use Rattle.std.proofs.Common.{◌++◌, length, refl, ap, sym, subst, ◌∙◌, append_assoc, length-append, arith}
 use Rattle.std.specs.Prelude.{codes, map}
 use Rattle.std.specs.List.{list_all, list_any}
 use Rattle.std.specs.Str.{bytes_eq}
@@ -9,7 +10,8 @@ use Rattle.cg_reading.specs.Pieces.{Piece, Then, Or, Made, Word}
 use Rattle.cg_reading.specs.Tokens.{blanks, gap, with_blanks}
 use Rattle.cg_reading.specs.Words.{Table, Among}
 use Rattle.cg_reading.proofs.Laws.{Lawful}
-use Rattle.cg_reading.proofs.Same.{Same, same_self, same_back, same_on, same_lawful, then_same, or_same, made_same, made_twice, made_second, blanks_behind_made, blanks_behind_then, blanks_behind_or}
+use Rattle.cg_reading.proofs.Same.{Same, same_self, same_back, same_on, same_lawful, then_same, or_same, made_same}
+use Rattle.cg_reading.proofs.Same.{made_twice, made_second, blanks_behind_made, blanks_behind_then, blanks_behind_or}
 use Rattle.cg_query.specs.Tree.{Tree, Question, value, compare, outcome, stops, mean, temp, thermo, proof}
 use Rattle.cg_query.specs.declared.format.Format.{Format}
 use Rattle.cg_query.specs.declared.format.Format.TheVariants as formats

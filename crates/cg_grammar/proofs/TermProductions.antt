@@ -13,16 +13,19 @@ use Rattle.cg_reading.proofs.Rules.{then_ok, or_ok, made_ok, many_ok, wide_ok, t
 use Rattle.cg_reading.proofs.MostBytes.{more_inside}
 use Rattle.cg_reading.proofs.TokenLaws.{digits_ok, digits_text, byte_ok, byte_text, gap_ok}
 use Rattle.cg_grammar.specs.Found.{Found}
-use Rattle.cg_grammar.specs.Values.{Arrows, ups_tree, more_arrows, Last, In_none, In_arrows, In_name, goes_on, letter_or_digit, more_letters, counted_of, with_tail, clean, negated, sum_of, run_side, braces_of}
+use Rattle.cg_grammar.specs.Values.{Arrows, ups_tree, more_arrows, Last, In_none, In_arrows, In_name, goes_on, letter_or_digit}
+use Rattle.cg_grammar.specs.Values.{more_letters, counted_of, with_tail, clean, negated, sum_of, run_side, braces_of}
 use Rattle.cg_grammar.specs.Grammar as s
 use Rattle.cg_grammar.specs.Grammar.{bar}
 use Rattle.cg_grammar.specs.Reading as r
-use Rattle.cg_grammar.specs.Reading.{arrow, special_begin, uncounted_begin, unsigned_begin, term_begin, plus_minus, Behind, Over, Times, counted_from, behind_goes_on}
+use Rattle.cg_grammar.specs.Reading.{arrow, special_begin, uncounted_begin, unsigned_begin, term_begin}
+use Rattle.cg_grammar.specs.Reading.{plus_minus, Behind, Over, Times, counted_from, behind_goes_on}
 use Rattle.cg_grammar.proofs.Factored as g
 use Rattle.cg_grammar.proofs.Rows.{some_rows_ok, some_rows_text, row_reads}
 use Rattle.cg_grammar.proofs.Lists.{item_list_is, row_list_is}
 use Rattle.cg_grammar.proofs.Plain.{counted_term_is, whole_term_is}
-use Rattle.cg_grammar.proofs.TokenProductions.{nothing_text, ups_token, nim_ok, ups_tree_ok, optional_nim, no_nim, tail_follow, tail_ok, empty_tail, nim_text, number_follow}
+use Rattle.cg_grammar.proofs.TokenProductions.{nothing_text, ups_token, nim_ok, ups_tree_ok, optional_nim, no_nim}
+use Rattle.cg_grammar.proofs.TokenProductions.{tail_follow, tail_ok, empty_tail, nim_text, number_follow}
 
 -- ---- terms
 

@@ -1,5 +1,6 @@
 -- The first fault of a line of the grammar is the least column at which some brace of it, at any depth, repeats a run.
-use Rattle.std.proofs.Common.{◌≡◌, ℕ, zero, suc, ◌+◌, ◌≤◌, ◌<◌, ◌⊎◌, inl, inr, Bool, true, false, cond, List, [], ◌∷◌, ◌++◌, length, map, Option, Some, None, refl, ap, sym, subst, ◌∙◌, arith}
+use Rattle.std.proofs.Common.{◌≡◌, ℕ, zero, suc, ◌+◌, ◌≤◌, ◌<◌, ◌⊎◌, inl, inr, Bool, true, false, cond, List, []}
+use Rattle.std.proofs.Common.{◌∷◌, ◌++◌, length, map, Option, Some, None, refl, ap, sym, subst, ◌∙◌, arith}
 use Rattle.std.specs.Prelude.{ltb, codes}
 use Rattle.std.proofs.lemmas.Bool.{ltb-true, ltb-false}
 use Rattle.cg_reading.specs.Pieces.{Piece, Then, Or, Made, Nothing, One, Word}
@@ -14,9 +15,11 @@ use Rattle.cg_grammar.specs.Splitting.{IsLeast, IsRepeatAt, Repeats}
 use Rattle.cg_grammar.specs.Grammar as g
 use Rattle.cg_grammar.specs.Repeated.{RepeatsAt, RunRepeats, braces_but, line_by, special_but}
 use Rattle.cg_reading.proofs.Spelled.{then_as}
-use Rattle.cg_grammar.proofs.Clean.{Before, Cleans, before_first, before_rest, both, in_first, in_longest, in_second, made, many, or_clean, padded, same, spaced}
+use Rattle.cg_grammar.proofs.Clean.{Before, Cleans, before_first, before_rest, both, in_first}
+use Rattle.cg_grammar.proofs.Clean.{in_longest, in_second, made, many, or_clean, padded, same, spaced}
 use Rattle.cg_grammar.proofs.LeastFault.{none_some, row_within, some_same}
-use Rattle.cg_grammar.proofs.InOrder.{AllLie, expr_lies, fault_of, fault_with, first_cases, first_lies, items_lie, made_lie, next_lies, side_order, special_lies, term_lies}
+use Rattle.cg_grammar.proofs.InOrder.{AllLie, expr_lies, fault_of, fault_with, first_cases, first_lies}
+use Rattle.cg_grammar.proofs.InOrder.{items_lie, made_lie, next_lies, side_order, special_lies, term_lies}
 use Rattle.cg_grammar.proofs.RepeatedRuns.{repeats_exactly}
 use Rattle.cg_grammar.proofs.Whole.{one_stated}
 

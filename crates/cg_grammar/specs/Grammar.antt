@@ -45,7 +45,9 @@ use Rattle.cg_reading.specs.Pieces.{Piece, Then, Or, Many, Made, Nothing, One, B
 use Rattle.cg_reading.specs.Tokens.{only, blanks, gap, behind_blanks, with_blanks, digits}
 use Rattle.cg_query.specs.Tree.{Tree, Question, nimber, switch, tiny, octal, used, value, compare, outcome, stops, mean, temp, thermo, proof}
 use Rattle.cg_grammar.specs.Found.{Found, Asked, Stated}
-use Rattle.cg_grammar.specs.Values.{Arrows, ups_tree, letter_or_digit, Last, In_none, In_arrows, In_name, goes_on, Counted, whole, times, counted_goes_on, counted_of, with_tail, clean, negated, sum_of, run_side, braces_of, one_text, two_texts, asked_of, asked_of_both, checked, asking as asking_line, defined}
+use Rattle.cg_grammar.specs.Values.{Arrows, ups_tree, letter_or_digit, Last, In_none, In_arrows, In_name, goes_on, Counted, whole}
+use Rattle.cg_grammar.specs.Values.{times, counted_goes_on, counted_of, with_tail, clean, negated, sum_of, run_side, braces_of}
+use Rattle.cg_grammar.specs.Values.{one_text, two_texts, asked_of, asked_of_both, checked, asking as asking_line, defined}
 use Rattle.cg_query.specs.declared.format.Format.{Format}
 use Rattle.cg_query.specs.declared.format.Format.TheVariants as formats
 use Rattle.cg_query.specs.declared.kind.GameKind.{GameKind}

@@ -2,13 +2,17 @@
 use Rattle.std.specs.Prelude.{ℕ, zero, suc, Bool, true, false, List, [], ◌∷◌, ◌++◌, length, map, Option, Some, None, Result, Ok, cond, codes}
 use Rattle.std.specs.Str.{bytes_eq}
 use Rattle.cg_reading.specs.Bytes.{Class}
-use Rattle.cg_reading.specs.Readers.{Read, Reader, ◌>>=◌, then_at, or_at, many_at, behind_these, made_at, nothing_at, one_at, bytes_at, most_at, run_at, placed_at, such_at, telling_at, whole_at}
+use Rattle.cg_reading.specs.Readers.{Read, Reader, ◌>>=◌, then_at, or_at, many_at, behind_these, made_at, nothing_at}
+use Rattle.cg_reading.specs.Readers.{one_at, bytes_at, most_at, run_at, placed_at, such_at, telling_at, whole_at}
 use Rattle.cg_reading.specs.Tokens.{only, blank, digit}
 use Rattle.cg_reading.specs.Words.{Table, among_at}
 use Rattle.cg_reading.specs.TokenReaders.{blanks_at, byte_at, gap_at, this_word_at, digits_at}
-use Rattle.cg_query.specs.Tree.{Tree, Question, number, ups, nimber, switch, tiny, sum, octal, used, terms_from, value, compare, outcome, stops, mean, temp, thermo, proof}
+use Rattle.cg_query.specs.Tree.{Tree, Question, number, ups, nimber, switch, tiny, sum, octal, used}
+use Rattle.cg_query.specs.Tree.{terms_from, value, compare, outcome, stops, mean, temp, thermo, proof}
 use Rattle.cg_grammar.specs.Found.{Found, Stated, first}
-use Rattle.cg_grammar.specs.Values.{Arrows, ups_tree, letter_or_digit, Last, In_none, In_arrows, In_name, Counted, whole, times, goes_on, counted_of, times_of, with_tail, clean, negated, sum_of, minus_of, first_fault, run_side, braces_of, one_text, two_texts, asked_of, asked_of_both, checked, asking, defined}
+use Rattle.cg_grammar.specs.Values.{Arrows, ups_tree, letter_or_digit, Last, In_none, In_arrows, In_name, Counted, whole, times}
+use Rattle.cg_grammar.specs.Values.{goes_on, counted_of, times_of, with_tail, clean, negated, sum_of, minus_of, first_fault}
+use Rattle.cg_grammar.specs.Values.{run_side, braces_of, one_text, two_texts, asked_of, asked_of_both, checked, asking, defined}
 use Rattle.cg_grammar.specs.Grammar.{printable, bar, letter, is_free}
 use Rattle.cg_query.specs.declared.format.Format.{Format}
 use Rattle.cg_query.specs.declared.format.Format.TheVariants as formats

@@ -4,7 +4,8 @@ use Rattle.std.specs.Prelude.{ℕ, suc, max, ◌≡◌, ◌<◌, Bool, true, fal
 use Rattle.std.specs.List.{list_all}
 use Rattle.cg_reading.specs.Bytes.{has}
 use Rattle.cg_grammar.specs.Grammar.{printable}
-use Rattle.cg_query.specs.Tree.{Tree, Trees, Terms, Question, number, ups, nimber, switch, tiny, sides, negative, multiple, sum, game, octal, used, no_trees, with_tree, no_terms, with_term, value, compare, outcome, stops, mean, temp, thermo, proof, check}
+use Rattle.cg_query.specs.Tree.{Tree, Trees, Terms, Question, number, ups, nimber, switch, tiny, sides, negative, multiple, sum, game, octal, used}
+use Rattle.cg_query.specs.Tree.{no_trees, with_tree, no_terms, with_term, value, compare, outcome, stops, mean, temp, thermo, proof, check}
 use Rattle.cg_query.specs.Heights.{QuestionIs, height, heights, term_heights}
 use Rattle.cg_query.specs.declared.kind.GameKind.{GameKind}
 use Rattle.cg_query.specs.declared.kind.GameKind.TheVariants.{Domineering, Clobber, Amazons, Toads, Strip, Hackenbush, Col, Snort}

@@ -37,8 +37,8 @@ pub fn one_statement()
 {}
 
 /// A brace is split at its longest run of bars, and so is each of its sides: where runs have one bar to eight, and none
-/// repeats an earlier one, the tree that the grammar gives a row with a run is that of splitting at the longest run, and
-/// so are the options that it gives each of its parts.
+/// repeats an earlier one, the tree that the grammar gives a row with a run is that of splitting at the longest run,
+/// and so are the options that it gives each of its parts.
 pub fn longest_run()
     ensures tree { (side : List Found) (row : Run_side) (rows : List Run_side) → AllWithin 8 (row ∷ rows)
         → NoneRepeats [] (row ∷ rows) → IsSplit side (row ∷ rows) (row_tree side (row ∷ rows) ∷ []) }
@@ -46,17 +46,17 @@ pub fn longest_run()
         → IsSplit side rows (part_of 8 side rows) }
 {}
 
-/// A run of bars is refused where it repeats an earlier one of its brace: the test on the lengths says so exactly where one
-/// of the earlier runs has its length and none longer stands behind that one.
+/// A run of bars is refused where it repeats an earlier one of its brace: the test on the lengths says so exactly where
+/// one of the earlier runs has its length and none longer stands behind that one.
 pub fn repeated_run()
     ensures { (length : ℕ) (earlier : List ℕ) → (repeats length false earlier ≡ true) ↔ Repeats length earlier }
 {}
 
-/// The column at which a brace is refused is the least at which a run of bars repeats an earlier one of the brace, or an
-/// expression in it is refused; and there is none exactly where no run does and no expression is. In each line the
+/// The column at which a brace is refused is the least at which a run of bars repeats an earlier one of the brace, or
+/// an expression in it is refused; and there is none exactly where no run does and no expression is. In each line the
 /// expressions and the runs of a brace stand one behind the other, as that asks. So the column of a whole line of the
-/// grammar is the least at which some brace of it, at any depth, repeats a run; and there is none exactly where no brace
-/// does.
+/// grammar is the least at which some brace of it, at any depth, repeats a run; and there is none exactly where no
+/// brace does.
 pub fn least_column()
     ensures least { (side : List Found) (rows : List Run_side) (from to : ℕ) → RowLies from side rows to
         → IsLeast (IsFault side rows) (row_fault side rows) }

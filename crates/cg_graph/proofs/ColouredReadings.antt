@@ -1,10 +1,13 @@
 -- What reading two texts says of them as a coloured_graph.
-use Rattle.std.proofs.Common.{◌≡◌, ◌≢◌, ◌⊎◌, inl, inr, refl, ℕ, suc, ◌+◌, ◌-◌, ◌≤◌, Bool, Option, Some, None, Result, Ok, Err, List, length, ap, sym, ◌∙◌, arith}
+use Rattle.std.proofs.Common.{◌≡◌, ◌≢◌, ◌⊎◌, inl, inr, refl, ℕ, suc, ◌+◌, ◌-◌, ◌≤◌, Bool, Option}
+use Rattle.std.proofs.Common.{Some, None, Result, Ok, Err, List, length, ap, sym, ◌∙◌, arith}
 use Rattle.std.specs.Prelude.{IfErr, IfOk}
 use Rattle.cg_reading.specs.Column.{Stops}
 use Rattle.cg_reading.specs.Readers.{whole_at}
 use Rattle.cg_reading.proofs.WholeLines.{whole_again, whole_left, whole_stops, whole_takes}
-use Rattle.cg_graph.specs.ColouredGraphs.{ArePairs, ColouredGraph, IsBroken, IsColouredGraphOf, IsFirstBroken, IsNoColouredGraph, IsPairsPlace, coloured_graph_read, coloured, edges_coloured, no_edges, no_memory, no_vertices, pairs_fault, pairs_of, sound_coloured, vertices_fault}
+use Rattle.cg_graph.specs.ColouredGraphs.{ArePairs, ColouredGraph, IsBroken, IsColouredGraphOf, IsFirstBroken, IsNoColouredGraph}
+use Rattle.cg_graph.specs.ColouredGraphs.{IsPairsPlace, coloured_graph_read, coloured, edges_coloured, no_edges, no_memory}
+use Rattle.cg_graph.specs.ColouredGraphs.{no_vertices, pairs_fault, pairs_of, sound_coloured, vertices_fault}
 use Rattle.cg_graph.specs.Grammar.{pairs}
 use Rattle.cg_graph.specs.Reading.{pairs_at}
 use Rattle.cg_graph.specs.declared.fault.GraphFault.{GraphFault}
@@ -71,7 +74,8 @@ module _ (snort : Bool) (vertices edges : List ℕ) where
       coloured_items items coloured_graph sound (pairs_take edges items e) (pairs_fault (length vertices) items) refl g
   coloured_edges coloured_graph sound (Err left) e g = absurd (cc)
 
-  pub coloured_is : (coloured_graph : ColouredGraph) → coloured_graph_read snort vertices edges ≡ Ok coloured_graph → IsColouredGraphOf snort vertices edges coloured_graph
+  pub coloured_is : (coloured_graph : ColouredGraph) → coloured_graph_read snort vertices edges ≡ Ok coloured_graph → IsColouredGraphOf snort vertices edges
+      coloured_graph
   unfolding coloured_graph_read
   coloured_is coloured_graph h = go (vertices_fault vertices) refl h
     where
@@ -127,7 +131,8 @@ module _ (snort : Bool) (vertices edges : List ℕ) where
   none_broken items is none None e = refl
   none_broken items is none (Some p) e = absurd (none p (first_of (length vertices) edges items p is e).broken)
 
-  pub is_coloured : (coloured_graph : ColouredGraph) → IsColouredGraphOf snort vertices edges coloured_graph → coloured_graph_read snort vertices edges ≡ Ok coloured_graph
+  pub is_coloured : (coloured_graph : ColouredGraph) → IsColouredGraphOf snort vertices edges coloured_graph → coloured_graph_read snort vertices edges
+      ≡ Ok coloured_graph
   is_coloured coloured_graph a =
       read_items a.items a.sound a.is
       ∙ ap (sound_coloured (coloured_graph_of a.items)) (none_broken a.items a.is a.unbroken (pairs_fault (length vertices) a.items) refl)

@@ -55,7 +55,8 @@ own-contained : (player : Player) → Contains (codes ".xo") (own player)
 own-contained Left = (1, omega arith, refl)
 own-contained Right = (2, omega arith, refl)
 
-pub has-own : (coloured_graph : ColouredGraph) (player : Player) (p : Grid) → (coloured_graph_rules coloured_graph).has p ≡ true → Contains p.symbols (own player)
+pub has-own : (coloured_graph : ColouredGraph) (player : Player) (p : Grid) → (coloured_graph_rules coloured_graph).has p ≡ true → Contains p.symbols
+    (own player)
 has-own coloured_graph player p has =
     let same = bytes_eq-back p.symbols (codes ".xo")
     (and-split (bytes_eq p.symbols (codes ".xo")) (length p.cells == length coloured_graph.vertices) has).0 in

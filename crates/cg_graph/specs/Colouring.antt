@@ -1,6 +1,7 @@
 -- Col and Snort on graphs. Berlekamp, Conway, Guy, Winning Ways, chapters 2 and 6: a player turns a free vertex into the own
 -- colour. In Col no neighbour may have the own colour, and in Snort none the other player's.
-use Rattle.std.specs.Prelude.{◌<◌, ◌⊎◌, ◌≢◌, ◌≡◌, ℕ, ◌==◌, ◌&&◌, ◌||◌, Bool, not, if◌then◌else◌, List, [], ◌∷◌, codes, count_by, length, slice_index, slice_set, None}
+use Rattle.std.specs.Prelude.{◌<◌, ◌⊎◌, ◌≢◌, ◌≡◌, ℕ, ◌==◌, ◌&&◌, ◌||◌, Bool, not, if◌then◌else◌}
+use Rattle.std.specs.Prelude.{List, [], ◌∷◌, codes, count_by, length, slice_index, slice_set, None}
 use Rattle.std.specs.List.{flat_map, list_any}
 use Rattle.std.specs.Str.{bytes_eq}
 use Rattle.cg_moves.specs.declared.player.Player.{Player}

@@ -1,5 +1,6 @@
 -- The law of the rules of Hackenbush. It stands here since the rules rest on it.
-use Rattle.std.proofs.Common.{◌≡◌, refl, ℕ, zero, suc, ◌+◌, ◌<◌, ◌≤◌, ◌==◌, Bool, true, not, if◌then◌else◌, List, [], ◌∷◌, length, inl, inr, ap, sym, ◌∙◌, subst, arith, length-set}
+use Rattle.std.proofs.Common.{◌≡◌, refl, ℕ, zero, suc, ◌+◌, ◌<◌, ◌≤◌, ◌==◌, Bool, true, not, if◌then◌else◌}
+use Rattle.std.proofs.Common.{List, [], ◌∷◌, length, inl, inr, ap, sym, ◌∙◌, subst, arith, length-set}
 use Rattle.std.specs.Prelude.{codes, count_by, slice_set}
 use Rattle.std.specs.Str.{bytes_eq}
 use Rattle.std.proofs.lemmas.Bool.{and_from, and_parts, eqb-true, eq-eqb}

@@ -1,7 +1,9 @@
 //! ColouredGraphs of Col and Snort.
 ghost use Rattle.std.specs.Prelude.{◌≡◌, ◌≤◌, ◌⊎◌, All, None, Ok, Err, IfOk, IfErr, length, true};
 ghost use Rattle.cg_moves.specs.Grid.{IsGrid};
-ghost use Rattle.cg_graph.specs.ColouredGraphs.{ColouredGraph, IsColouredGraph, IsColouredGraphOf, IsNoColouredGraph, coloured_graph_read, coloured_graph_rules, coloured_graph_start, pair_of, pairs_fault, pairs_of, sound_coloured, vertices_fault};
+ghost use Rattle.cg_graph.specs.ColouredGraphs.{ColouredGraph, IsColouredGraph, IsColouredGraphOf, IsNoColouredGraph};
+ghost use Rattle.cg_graph.specs.ColouredGraphs.{coloured_graph_read, coloured_graph_rules, coloured_graph_start};
+ghost use Rattle.cg_graph.specs.ColouredGraphs.{pair_of, pairs_fault, pairs_of, sound_coloured, vertices_fault};
 ghost use Rattle.cg_graph.specs.Items.{IsLettered};
 
 use crate::coloured_graph_faults::{named, pairs_fault, vertices_fault};
@@ -14,11 +16,11 @@ use cg_reading::ReadFault;
 use std::alloc::{AllocError, Global};
 use std::marker::Model;
 
-/// A position of Col or Snort: which of the two games it is, the colours of 1 to 52 vertices, and which of them are adjacent.
-/// Contracts see these three.
+/// A position of Col or Snort: which of the two games it is, the colours of 1 to 52 vertices, and which of them are
+/// adjacent. Contracts see these three.
 ///
-/// A player gives a free vertex the own colour, Left `x` and Right `o`. In Snort no neighbour may have the other player's
-/// colour, and in Col none may have the own.
+/// A player gives a free vertex the own colour, Left `x` and Right `o`. In Snort no neighbour may have the other
+/// player's colour, and in Col none may have the own.
 #[derive(Debug, Drop)]
 pub struct Colouring {
     snort: bool,
@@ -38,13 +40,14 @@ impl Model for Colouring {
 
 impl Colouring {
     /// The position of two texts. The first has one byte for each vertex: `.` where it is free, `x` where it has Left's
-    /// colour, and `o` where it has Right's. The vertices are named `a` to `z` and then `A` to `Z`, by place. The second text
-    /// is empty or has pairs of names joined by commas; repeated pairs are allowed.
+    /// colour, and `o` where it has Right's. The vertices are named `a` to `z` and then `A` to `Z`, by place. The
+    /// second text is empty or has pairs of names joined by commas; repeated pairs are allowed.
     ///
-    /// The first of these that applies is the refusal. `Symbol` comes at the first byte of the vertices that is none of `.`,
-    /// `x` and `o`; `Empty(1)` where there is no vertex; `Large(53)` where there are more than 52. `Edges` comes exactly where
-    /// the second text isn't in its grammar, with 1 plus the length of the longest prefix that some text of the grammar has,
-    /// too; else at the least place of a letter that names no vertex or repeats the first letter of its pair.
+    /// The first of these that applies is the refusal. `Symbol` comes at the first byte of the vertices that is none of
+    /// `.`, `x` and `o`; `Empty(1)` where there is no vertex; `Large(53)` where there are more than 52. `Edges` comes
+    /// exactly where the second text isn't in its grammar, with 1 plus the length of the longest prefix that some text
+    /// of the grammar has, too; else at the least place of a letter that names no vertex or repeats the first letter of
+    /// its pair.
     pub fn read(
         alloc: Global,
         snort: bool,

@@ -1,7 +1,8 @@
 //! Drawings of Hackenbush.
 ghost use Rattle.std.specs.Prelude.{◌≡◌, ◌≤◌, ◌⊎◌, All, Ok, Err, IfOk, IfErr, length, slice_get, true};
 ghost use Rattle.cg_moves.specs.Grid.{IsGrid};
-ghost use Rattle.cg_graph.specs.Drawings.{IsDrawing, IsDrawnAs, IsEdge, IsNotDrawn, colours_of, drawing_of, drawing_read, drawing_rules, drawing_start, few_drawn};
+ghost use Rattle.cg_graph.specs.Drawings.{IsDrawing, IsDrawnAs, IsEdge, IsNotDrawn, colours_of, drawing_of};
+ghost use Rattle.cg_graph.specs.Drawings.{drawing_read, drawing_rules, drawing_start, few_drawn};
 
 use crate::edge::ColouredEdge;
 use crate::fault::GraphFault;
@@ -18,7 +19,8 @@ const MOST_EDGES: usize = 64;
 
 /// A drawing of Hackenbush: 1 to 64 edges with their colours. Contracts see the list of edges.
 ///
-/// Left cuts a blue or a green edge, Right a red or a green one; then the edges that are no longer joined to the ground go.
+/// Left cuts a blue or a green edge, Right a red or a green one; then the edges that are no longer joined to the ground
+/// go.
 #[derive(Debug, Drop)]
 pub struct Hackenbush {
     edges: Vec<ColouredEdge>,
@@ -37,11 +39,13 @@ impl Model for Hackenbush {
 }
 
 impl Hackenbush {
-    /// The drawing of a text: one or more edges joined by commas, each a vertex, a colour and a vertex. A vertex is one byte
-    /// `0` to `9` or `A` to `Z`, and `0` is the ground; a colour is `b`, `r` or `g`. Loops and repeated edges are allowed.
+    /// The drawing of a text: one or more edges joined by commas, each a vertex, a colour and a vertex. A vertex is one
+    /// byte `0` to `9` or `A` to `Z`, and `0` is the ground; a colour is `b`, `r` or `g`. Loops and repeated edges are
+    /// allowed.
     ///
-    /// `Edges` comes exactly where the text isn't in this grammar, with 1 plus the length of the longest prefix that some
-    /// text of the grammar has, too; else `Large` exactly where there is a 65th edge, with the place of its first byte.
+    /// `Edges` comes exactly where the text isn't in this grammar, with 1 plus the length of the longest prefix that
+    /// some text of the grammar has, too; else `Large` exactly where there is a 65th edge, with the place of its first
+    /// byte.
     pub fn read(alloc: Global, edges: &[u8]) -> Result<Hackenbush, GraphFault>
         ensures read { IfOk result (IsDrawnAs edges.now) }
         ensures refused { IfErr result (IsNotDrawn edges.now) }

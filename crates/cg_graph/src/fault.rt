@@ -4,8 +4,8 @@ ghost use Rattle.std.specs.Prelude.{◌≡◌};
 use std::alloc::{AllocError, AllocFailed};
 use thiserror::Error;
 
-/// Why a text is no graph. A place counts bytes from 1: in `Symbol`, `Empty` and the `Large` of Col and Snort those of the
-/// vertices, and in `Edges` and the `Large` of Hackenbush those of the edges.
+/// Why a text is no graph. A place counts bytes from 1: in `Symbol`, `Empty` and the `Large` of Col and Snort those of
+/// the vertices, and in `Edges` and the `Large` of Hackenbush those of the edges.
 #[derive(Clone, Copy, Debug, PartialEq, Eq, Error)]
 pub enum GraphFault {
     /// At this place stands a byte that is none of `.`, `x` and `o`.

@@ -4,7 +4,8 @@ ghost use Rattle.cg_reading.specs.Bytes.{has};
 ghost use Rattle.cg_reading.specs.Gives.{Gives};
 ghost use Rattle.cg_reading.specs.Readers.{behind_these, whole_at};
 ghost use Rattle.cg_graph.specs.Grammar.{colour, comma, letter, vertex};
-ghost use Rattle.cg_graph.specs.Reading.{colour_at, edge_at, edges_at, letter_at, next_edge_at, next_pair_at, pair_at, pairs_at, some_pairs_at, vertex_at};
+ghost use Rattle.cg_graph.specs.Reading.{colour_at, edge_at, edges_at, letter_at, next_edge_at};
+ghost use Rattle.cg_graph.specs.Reading.{next_pair_at, pair_at, pairs_at, some_pairs_at, vertex_at};
 
 use crate::edge::ColouredEdge;
 use crate::items::{EdgeItem, PairItem};

@@ -3,7 +3,8 @@ use Rattle.std.proofs.Common.{◌≡◌, refl, ℕ, suc, ◌+◌, ◌*◌, ◌%�
 use Rattle.std.specs.Prelude.{slice_set, take}
 use Rattle.std.proofs.lemmas.Bool.Decides.{eqb_tells}
 use Rattle.std.proofs.Math.Nat.{mul-lt-mul_of_pos_right}
-use Rattle.std.proofs.lemmas.List.{get_or_append_left, get_or_push, get_or_read_under, get_or-set_other, get_or-set_same, length-append, length-set, length-take-le}
+use Rattle.std.proofs.lemmas.List.{get_or_append_left, get_or_push, get_or_read_under, get_or-set_other}
+use Rattle.std.proofs.lemmas.List.{get_or-set_same, length-append, length-set, length-take-le}
 use Rattle.cg_hash_index.specs.Chains.{AreChained, IsLast, chain_at, chain_in, nothing}
 use Rattle.cg_hash_index.specs.declared.hash_index.Entry.{Entry}
 

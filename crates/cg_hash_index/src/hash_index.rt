@@ -1,8 +1,10 @@
 //! Chains of entries.
 //!
-//! The entries are counted from 0, in the order in which they are added, each with a number. The owner of the list has what an
-//! entry stands for. Each number has one chain, in which its entries stand among those of some other numbers, the newest first.
-ghost use Rattle.std.specs.Prelude.{◌≡◌, ◌++◌, ◌<◌, ◌∷◌, [], IfNone, IfOk, IfSome, OnErr, ℕ, false, get_or, length, true};
+//! The entries are counted from 0, in the order in which they are added, each with a number. The owner of the list has
+//! what an entry stands for. Each number has one chain, in which its entries stand among those of some other numbers,
+//! the newest first.
+ghost use Rattle.std.specs.Prelude.{◌≡◌, ◌++◌, ◌<◌, ◌∷◌, [], IfNone, IfOk, IfSome};
+ghost use Rattle.std.specs.Prelude.{OnErr, ℕ, false, get_or, length, true};
 ghost use Rattle.cg_hash_index.specs.Chains.{AreChained, chain_at, numbers};
 
 use std::alloc::{AllocError, Global};
@@ -20,7 +22,8 @@ pub(crate) struct Entry {
     before: usize,
 }
 
-/// The numbers of entries, in the order in which they were added, and where entries of a number stand. Contracts see the numbers.
+/// The numbers of entries, in the order in which they were added, and where entries of a number stand. Contracts see
+/// the numbers.
 #[derive(Drop)]
 pub struct HashIndex {
     alloc: Global,
@@ -43,8 +46,8 @@ impl Model for HashIndex {
     ghost invariant = { λ s. AreChained s.entries.items s.chains.items };
 }
 
-/// The chain of entries of this number, of so many. All bits of the number have their part in it, so it doesn't matter in which bits
-/// an owner's numbers differ.
+/// The chain of entries of this number, of so many. All bits of the number have their part in it, so it doesn't matter
+/// in which bits an owner's numbers differ.
 fn chain_of(number: u32, chains: usize) -> usize
     requires { 0 < chains }
     ensures value { result ≡ chain_at number chains }

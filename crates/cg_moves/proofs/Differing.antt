@@ -1,5 +1,6 @@
 -- The cells in which boards differ, by their planes.
-use Rattle.std.proofs.Common.{◌≡◌, ◌≢◌, ℕ, ◌+◌, ◌*◌, ◌%◌, ◌<◌, ◌≤◌, ◌==◌, ◌^◌, inl, inr, not, if◌then◌else◌, List, length, ap, sym, ◌∙◌, arith, max, bit_or, w64}
+use Rattle.std.proofs.Common.{◌≡◌, ◌≢◌, ℕ, ◌+◌, ◌*◌, ◌%◌, ◌<◌, ◌≤◌, ◌==◌, ◌^◌, inl, inr, not}
+use Rattle.std.proofs.Common.{if◌then◌else◌, List, length, ap, sym, ◌∙◌, arith, max, bit_or, w64}
 use Rattle.std.specs.Prelude.{slice_index}
 use Rattle.std.specs.Int.{bit_at, trailing_zeros}
 use Rattle.std.specs.Int.Bits.{bit_xor}

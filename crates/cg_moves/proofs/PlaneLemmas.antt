@@ -1,5 +1,6 @@
 -- The cells of boards in words.
-use Rattle.std.proofs.Common.{◌≡◌, ◌≢◌, refl, ℕ, suc, ◌+◌, ◌-◌, ◌*◌, ◌<◌, ◌≤◌, ◌==◌, inl, inr, None, true, false, if◌then◌else◌, nat_lt, List, [], ◌∷◌, ◌++◌, length, take, get_or, ap, sym, subst, ◌∙◌, arith, length-set, get_or-set_same, get_or-set_other, bit_and, min}
+use Rattle.std.proofs.Common.{◌≡◌, ◌≢◌, refl, ℕ, suc, ◌+◌, ◌-◌, ◌*◌, ◌<◌, ◌≤◌, ◌==◌, inl, inr, None, true, false, if◌then◌else◌, nat_lt, List, [], ◌∷◌}
+use Rattle.std.proofs.Common.{◌++◌, length, take, get_or, ap, sym, subst, ◌∙◌, arith, length-set, get_or-set_same, get_or-set_other, bit_and, min}
 use Rattle.std.specs.Prelude.{Contains, slice_index, slice_set}
 use Rattle.std.specs.Int.{bit_at}
 use Rattle.std.specs.List.{position}

@@ -1,5 +1,6 @@
 -- The text of a board reads back as the board.
-use Rattle.std.proofs.Common.{◌≡◌, refl, ℕ, zero, suc, ◌+◌, ◌-◌, ◌*◌, ◌<◌, ◌≤◌, ◌==◌, not, Bool, true, false, cond, ◌⊎◌, inl, inr, Some, None, List, [], ◌∷◌, ◌++◌, length, take, drop, ap, sym, ◌∙◌, arith, length-drop, append-nil, append_assoc}
+use Rattle.std.proofs.Common.{◌≡◌, refl, ℕ, zero, suc, ◌+◌, ◌-◌, ◌*◌, ◌<◌, ◌≤◌, ◌==◌, not, Bool, true, false, cond, ◌⊎◌, inl, inr, Some}
+use Rattle.std.proofs.Common.{None, List, [], ◌∷◌, ◌++◌, length, take, drop, ap, sym, ◌∙◌, arith, length-drop, append-nil, append_assoc}
 use Rattle.std.specs.Prelude.{All, Contains, Ok, nat_lt, position, slice_index}
 use Rattle.std.specs.List.{list_all, list_any, position_or_len}
 use Rattle.std.proofs.Math.Seq.{take-length}
@@ -8,7 +9,8 @@ use Rattle.std.proofs.lemmas.Bool.Decides.{eqb_tells, nat_tests}
 use Rattle.std.proofs.lemmas.List.{drop-drop, length-take-le, take-append-drop}
 use Rattle.cg_moves.specs.Grid.{AreCells, Grid, IsGrid, is_symbol}
 use Rattle.cg_moves.specs.Rules.{In}
-use Rattle.cg_moves.specs.Texts.{ReadsBack, bar, behind_bars, cells_of, cut, first_row, in_front, in_rows, is_foreign, joined, ragged, read_of, rows_of, text_of}
+use Rattle.cg_moves.specs.Texts.{ReadsBack, bar, behind_bars, cells_of, cut, first_row, in_front}
+use Rattle.cg_moves.specs.Texts.{in_rows, is_foreign, joined, ragged, read_of, rows_of, text_of}
 use Rattle.cg_moves.proofs.ConnectedLemmas.{or-first, or-second}
 use Rattle.cg_form.proofs.Firsts.{in-append, in-append_left, in-append_right}
 use Rattle.cg_moves.proofs.Members.{all_from, carry, in_flat_mapped, in_one}

@@ -1,5 +1,6 @@
 -- Going over the places at which a word has a 1, one after another: each is cleared, and what belongs to it is listed.
-use Rattle.std.proofs.Common.{◌≡◌, ◌≢◌, refl, ℕ, zero, suc, ◌+◌, ◌<◌, ◌≤◌, inl, inr, List, [], ◌++◌, append-nil, append_assoc, map, ap, sym, subst, ◌∙◌, arith, bit_or, ◌^◌}
+use Rattle.std.proofs.Common.{◌≡◌, ◌≢◌, refl, ℕ, zero, suc, ◌+◌, ◌<◌, ◌≤◌, inl, inr, List, [], ◌++◌}
+use Rattle.std.proofs.Common.{append-nil, append_assoc, map, ap, sym, subst, ◌∙◌, arith, bit_or, ◌^◌}
 use Rattle.std.specs.Int.{bit_at}
 use Rattle.std.specs.List.{flat_map}
 use Rattle.std.proofs.lemmas.Bool.Decides.{eqb_tells, nat_tests}

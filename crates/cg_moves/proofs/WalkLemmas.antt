@@ -8,7 +8,8 @@ use Rattle.cg_moves.specs.Kept.{kept, one_more}
 use Rattle.cg_moves.specs.Plays.{IsPlay, Play}
 use Rattle.cg_moves.specs.Rules.{In}
 use Rattle.cg_moves.specs.Walks.{GoesOn, IsWalk, Visit, Enters, Leaves, boards_left, entered}
-use Rattle.cg_moves.proofs.TaskLemmas.{boards_left-append, boards_left-entered, known-append, known-back, known-entered, known-front, ready-change, ready-entered, ready-last}
+use Rattle.cg_moves.proofs.TaskLemmas.{boards_left-append, boards_left-entered, known-append, known-back}
+use Rattle.cg_moves.proofs.TaskLemmas.{known-entered, known-front, ready-change, ready-entered, ready-last}
 use Rattle.cg_form.proofs.Firsts.{extended-append, extended-there, in-append, one_more-among, one_more-has, one_more-keeps}
 use Rattle.cg_moves.proofs.Same.{boards}
 use Rattle.cg_moves.proofs.Members.{carry, in_one}

@@ -1,11 +1,13 @@
 -- Words by their bits.
-use Rattle.std.proofs.Common.{◌≡◌, ◌≢◌, refl, Bool, true, false, not, ◌&&◌, ℕ, suc, ◌+◌, ◌-◌, ◌*◌, ◌/◌, ◌%◌, ◌^◌, ◌<◌, ◌≤◌, ◌==◌, inl, inr, if◌then◌else◌, ap, sym, ◌∙◌, arith, bit_and, bit_or, min, nat_lt, w64}
+use Rattle.std.proofs.Common.{◌≡◌, ◌≢◌, refl, Bool, true, false, not, ◌&&◌, ℕ, suc, ◌+◌, ◌-◌, ◌*◌, ◌/◌, ◌%◌, ◌^◌, ◌<◌, ◌≤◌}
+use Rattle.std.proofs.Common.{◌==◌, inl, inr, if◌then◌else◌, ap, sym, ◌∙◌, arith, bit_and, bit_or, min, nat_lt, w64}
 use Rattle.std.specs.Int.{bit_at}
 use Rattle.std.proofs.lemmas.Bool.Decides.{eqb_tells, leb_tells, nat_tests}
 use Rattle.std.proofs.Math.Nat.{mod-eq_of_lt, mod-lt, mod_self, suc-mod}
 use Rattle.std.proofs.lemmas.Bool.{eq-eqb, le-ltb, lt-ltb}
 use Rattle.std.proofs.lemmas.Nat.{pow_pos, shr-shr}
-use Rattle.std.proofs.lemmas.Nat.Bits.{bit_at-lt, bit_at-zero, bit_at_above, bit_at_and, bit_at_cat_high, bit_at_cat_low, bit_at_clear_other, bit_at_clear_same, bit_at_not, bit_at_ones, bit_at_ones_above, bit_at_set_other, bit_at_set_same, ones_shr}
+use Rattle.std.proofs.lemmas.Nat.Bits.{bit_at-lt, bit_at-zero, bit_at_above, bit_at_and, bit_at_cat_high, bit_at_cat_low, bit_at_clear_other}
+use Rattle.std.proofs.lemmas.Nat.Bits.{bit_at_clear_same, bit_at_not, bit_at_ones, bit_at_ones_above, bit_at_set_other, bit_at_set_same, ones_shr}
 use Rattle.cg_moves.specs.Words.{IsWithBit, Marks}
 
 -- what a word is with a bit, where it has that bit at the place and its own elsewhere

@@ -1,5 +1,6 @@
 //! Boards.
-ghost use Rattle.std.specs.Prelude.{◌≡◌, ◌*◌, ◌%◌, ◌<◌, ◌≤◌, ◌==◌, ◌&&◌, nat_lt, not, true, length, slice_index, slice_set, take, Contains, IfOk, Ok};
+ghost use Rattle.std.specs.Prelude.{◌≡◌, ◌*◌, ◌%◌, ◌<◌, ◌≤◌, ◌==◌, ◌&&◌, nat_lt, not, true};
+ghost use Rattle.std.specs.Prelude.{length, slice_index, slice_set, take, Contains, IfOk, Ok};
 ghost use Rattle.cg_moves.specs.Grid.{AreCells, IsGrid, IsLike, are_symbols, with_cells};
 ghost use Rattle.cg_moves.specs.PlaneBits.{ArePlanes, IsGridBy, grid_by, index_of};
 ghost use Rattle.cg_moves.specs.Rising.{bytes_cmp};
@@ -15,8 +16,8 @@ use std::marker::Model;
 /// A board: its rows and columns, the symbols that its cells may have, and its cells.
 ///
 /// There are 1 to 16 different symbols, each a printable byte other than `|`, and 1 to 64 cells, each with one of the
-/// symbols. Contracts see the numbers of rows and columns, the row of symbols, and the list of cells, row by row. The cells
-/// are kept in four words ([`Planes`]), so that a board takes no memory of its own.
+/// symbols. Contracts see the numbers of rows and columns, the row of symbols, and the list of cells, row by row. The
+/// cells are kept in four words ([`Planes`]), so that a board takes no memory of its own.
 #[derive(Debug, Drop)]
 pub struct Board {
     // First, so that they are copied in whole words.
@@ -209,7 +210,8 @@ impl Board {
         self.set_known(index, symbol, known);
     }
 
-    /// Gives the cell another symbol, which has this index in the row of symbols. It is [`Board::set`] where the index is known.
+    /// Gives the cell another symbol, which has this index in the row of symbols. It is [`Board::set`] where the index
+    /// is known.
     pub fn set_known(&mut self, cell: u8, symbol: u8, index: u8)
         requires cell { cell < length self.old.cells }
         requires symbol { Contains self.old.symbols symbol }

@@ -64,8 +64,8 @@ fn expand<R: Rules>(
     enter_next(alloc, rules, edges, found, all, tasks)
 }
 
-/// Looks from a wide start for boards in breadth, as they are found. `Positions` comes as soon as more than the limit were found;
-/// where none comes, nothing is told.
+/// Looks from a wide start for boards in breadth, as they are found. `Positions` comes as soon as more than the limit
+/// were found; where none comes, nothing is told.
 pub(crate) fn search_breadth<R: Rules>(
     alloc: Global,
     rules: &R,

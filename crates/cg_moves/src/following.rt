@@ -15,8 +15,8 @@ use crate::task::{Task, enter_all};
 use crate::{Board, Player, Rules};
 use std::alloc::{AllocError, Global};
 
-/// Room for the boards that moves lead to from a board, for the pieces of one of them, and for how many parts they have. What
-/// comes next after another board is put into the same room.
+/// Room for the boards that moves lead to from a board, for the pieces of one of them, and for how many parts they
+/// have. What comes next after another board is put into the same room.
 #[derive(Drop)]
 pub(crate) struct Followers {
     /// The boards that Left's moves lead to.
@@ -45,7 +45,8 @@ pub(crate) fn list_followers<R: Rules>(
     rules.moves_into(alloc, board, Player::Right, &mut all.rights)
 }
 
-/// Puts tasks to enter the pieces of a board behind the tasks, the first piece last, and how many there are behind the counts.
+/// Puts tasks to enter the pieces of a board behind the tasks, the first piece last, and how many there are behind the
+/// counts.
 fn enter_pieces<R: Rules>(
     alloc: Global,
     rules: &R,
@@ -67,8 +68,8 @@ fn enter_pieces<R: Rules>(
     enter_all(alloc, found, room, tasks)
 }
 
-/// Puts tasks to enter the parts of a board behind the tasks, the first part last, and how many there are behind the counts. A
-/// board that was found is its own only part, and where boards are cut it is entered by its place.
+/// Puts tasks to enter the parts of a board behind the tasks, the first part last, and how many there are behind the
+/// counts. A board that was found is its own only part, and where boards are cut it is entered by its place.
 fn enter_parts<R: Rules>(
     alloc: Global,
     rules: &R,
@@ -103,8 +104,8 @@ fn enter_parts<R: Rules>(
     }
 }
 
-/// Puts tasks to enter the parts of the boards behind the tasks, the first part last, and how many parts each board has behind the
-/// counts, the first board last.
+/// Puts tasks to enter the parts of the boards behind the tasks, the first part last, and how many parts each board has
+/// behind the counts, the first board last.
 fn enter_followers<R: Rules>(
     alloc: Global,
     rules: &R,
@@ -131,8 +132,8 @@ fn enter_followers<R: Rules>(
     Ok(())
 }
 
-/// Puts tasks to enter the parts of all boards that moves lead to behind the tasks, the first part last, and counts the parts of
-/// each, the first board last.
+/// Puts tasks to enter the parts of all boards that moves lead to behind the tasks, the first part last, and counts the
+/// parts of each, the first board last.
 pub(crate) fn enter_next<R: Rules>(
     alloc: Global,
     rules: &R,

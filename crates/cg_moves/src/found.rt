@@ -20,8 +20,8 @@ fn has_key(boards: &[Board], number: usize, key: &BoardKey) -> bool
     }
 }
 
-/// Boards in the order in which they were found, each once. A board's number is its place in this order, counted from 0. Contracts
-/// see the list of boards.
+/// Boards in the order in which they were found, each once. A board's number is its place in this order, counted from
+/// 0. Contracts see the list of boards.
 #[derive(Drop)]
 pub(crate) struct Found {
     boards: Vec<Board>,
@@ -85,8 +85,8 @@ impl Found {
             .find(key.number(), |number| has_key(boards, number, &key))
     }
 
-    /// Puts a new board behind the others, and gives its number. All have the same symbols. `Positions` comes where that would
-    /// make more boards than the limit.
+    /// Puts a new board behind the others, and gives its number. All have the same symbols. `Positions` comes where
+    /// that would make more boards than the limit.
     #[inline(always)]
     pub(crate) fn put(&mut self, board: Board, limit: u64) -> Result<usize, ReachFault>
         requires same_symbols { SameSymbols (self.old ++ (board ∷ [])) }
@@ -107,8 +107,8 @@ impl Found {
         Ok(number)
     }
 
-    /// Puts a board behind the others, unless it was found. All have the same symbols. `Positions` comes where that would make
-    /// more boards than the limit.
+    /// Puts a board behind the others, unless it was found. All have the same symbols. `Positions` comes where that
+    /// would make more boards than the limit.
     pub(crate) fn find(&mut self, board: Board, limit: u64) -> Result<(), ReachFault>
         requires same_symbols { SameSymbols (self.old ++ (board ∷ [])) }
         requires within { length self.old ≤ limit }

@@ -26,11 +26,11 @@ pub struct PositionGraph {
     pub boards: Boards,
     /// For each of the boards, in order, where what comes next after it stands.
     pub next: Vec<Adjacency>,
-    /// How many parts each board has that a move leads to: those of Left's moves, then those of Right's, in the order of the
-    /// moves. Where boards aren't cut, each is its own only part.
+    /// How many parts each board has that a move leads to: those of Left's moves, then those of Right's, in the order
+    /// of the moves. Where boards aren't cut, each is its own only part.
     pub counts: Vec<usize>,
-    /// The places of these parts in the list of boards, board by board. Each is a place before that of the board that the moves
-    /// are of.
+    /// The places of these parts in the list of boards, board by board. Each is a place before that of the board that
+    /// the moves are of.
     pub places: Vec<usize>,
     /// The places of the boards that play starts with: the start, or its pieces in order.
     pub starts: Vec<usize>,

@@ -1,5 +1,6 @@
 //! Boards read from texts.
-ghost use Rattle.std.specs.Prelude.{◌≡◌, ◌≢◌, ◌⊎◌, ◌==◌, ◌||◌, not, ◌+◌, ◌≤◌, ◌<◌, true, Ok, Err, IfErr, IfOk, length, position, drop, take};
+ghost use Rattle.std.specs.Prelude.{◌≡◌, ◌≢◌, ◌⊎◌, ◌==◌, ◌||◌, not, ◌+◌, ◌≤◌, ◌<◌, true};
+ghost use Rattle.std.specs.Prelude.{Ok, Err, IfErr, IfOk, length, position, drop, take};
 ghost use Rattle.cg_moves.specs.Grid.{IsGrid, are_symbols};
 ghost use Rattle.cg_moves.specs.Texts.{bar, cells_of, cut, first_row, is_foreign, ragged, read_of, rows_of};
 
@@ -110,12 +111,12 @@ fn ragged_in(one_row: bool, text: &[u8], columns: usize) -> Option<u64>
     first_ragged(text, columns)
 }
 
-/// The board of a text with these symbols: one row, in which a bar is a byte like others, or rows with a bar between them.
-/// Places count bytes of the text from 1. The first of these that applies is the refusal.
+/// The board of a text with these symbols: one row, in which a bar is a byte like others, or rows with a bar between
+/// them. Places count bytes of the text from 1. The first of these that applies is the refusal.
 ///
-/// `Symbol` comes at the first byte that is neither a symbol nor a bar between rows; `Empty(1)` where the first row has no
-/// cell; `Ragged` at the start of the first row that isn't as long as the first; `Large` at the 65th cell. It takes no memory,
-/// and there is no other fault.
+/// `Symbol` comes at the first byte that is neither a symbol nor a bar between rows; `Empty(1)` where the first row has
+/// no cell; `Ragged` at the start of the first row that isn't as long as the first; `Large` at the 65th cell. It takes
+/// no memory, and there is no other fault.
 pub fn read_grid(
     alloc: Global,
     text: &[u8],

@@ -5,8 +5,9 @@ ghost use Rattle.cg_moves.specs.Keys.{key_number, key_of};
 
 use crate::{Board, Planes};
 
-/// The key of a board: its rows, its columns, and its cells in words. Boards with the same symbols have the same key exactly if
-/// they are equal. Each part is a word, since a part that is copied together with padding before it makes the processor wait.
+/// The key of a board: its rows, its columns, and its cells in words. Boards with the same symbols have the same key
+/// exactly if they are equal. Each part is a word, since a part that is copied together with padding before it makes
+/// the processor wait.
 #[derive(Clone, Copy, Debug, PartialEq, Eq)]
 pub struct BoardKey {
     /// How many rows there are.

@@ -13,14 +13,14 @@ ghost use Rattle.cg_moves.specs.Texts.{cell_places, read_of};
 
 use crate::{Board, BoardFault, Rules};
 
-/// The tree of all moves from a board of the game has as Left options the trees of the boards that Left's moves lead to, and
-/// as Right options those of the boards that Right's moves lead to.
+/// The tree of all moves from a board of the game has as Left options the trees of the boards that Left's moves lead
+/// to, and as Right options those of the boards that Right's moves lead to.
 pub fn trees<R: Rules>(rules: &R)
     ensures { (p : Grid) → (R.game rules.now).has p ≡ true → IsTreeOfMoves (R.game rules.now) p }
 {}
 
-/// The boards that play can come to from a board of the game are those of the boards that Left's moves lead to, those of the
-/// boards that Right's moves lead to, and the board itself.
+/// The boards that play can come to from a board of the game are those of the boards that Left's moves lead to, those
+/// of the boards that Right's moves lead to, and the board itself.
 pub fn reached<R: Rules>(rules: &R)
     ensures { (p : Grid) → (R.game rules.now).has p ≡ true → IsListOfReached (R.game rules.now) p }
 {}
@@ -38,14 +38,15 @@ pub fn l9<R: Rules>(rules: &R, board: &Board)
     ensures { IsSumOfPieces (R.game rules.now) board.now }
 {}
 
-/// Rules cut lawfully where each move of a board is a move in one piece that leaves the other pieces as they are, and each move
-/// in a piece is such a move of the board: then the board is the sum of its pieces.
+/// Rules cut lawfully where each move of a board is a move in one piece that leaves the other pieces as they are, and
+/// each move in a piece is such a move of the board: then the board is the sum of its pieces.
 pub fn cut_by_moves()
     ensures { (r : GameRules) → AreMoves r → IsCutByMoves r → IsCut r }
 {}
 
-/// Where the rules cut, the boards that play can come to from the pieces of a board of the game are, for each piece, those of
-/// the boards that Left's moves on it lead to, those of the boards that Right's moves lead to, and the piece itself.
+/// Where the rules cut, the boards that play can come to from the pieces of a board of the game are, for each piece,
+/// those of the boards that Left's moves on it lead to, those of the boards that Right's moves lead to, and the piece
+/// itself.
 pub fn reached_pieces<R: Rules>(rules: &R)
     ensures { (p : Grid) → cuts (R.game rules.now) ≡ true → (R.game rules.now).has p ≡ true
         → IsListOfPieceReached (R.game rules.now) p }

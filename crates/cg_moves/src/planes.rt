@@ -6,8 +6,8 @@ ghost use Rattle.cg_moves.specs.PlaneBits.{ArePlanes, index_at, index_of, IsWith
 
 use crate::words::{bit, matching_bits, with_bit};
 
-/// The cells of a board in four words. Bit i of the words `a`, `b`, `c` and `d` is bit 0, 1, 2 and 3 of the index of cell i's
-/// symbol in the board's row of symbols. Bits past the last cell are 0.
+/// The cells of a board in four words. Bit i of the words `a`, `b`, `c` and `d` is bit 0, 1, 2 and 3 of the index of
+/// cell i's symbol in the board's row of symbols. Bits past the last cell are 0.
 #[derive(Clone, Copy, Debug, PartialEq, Eq)]
 pub struct Planes {
     /// Bit 0 of each index.

@@ -10,10 +10,10 @@ use crate::walk::open_all;
 use crate::{Board, Boards, PositionGraph, ReachFault, Rules};
 use std::alloc::Global;
 
-/// The boards that play can come to from the start, which must be a board of the game, as [`reach`] lists them, and for each
-/// board what comes next after it: how many boards Left's moves lead to, that each is its own only part, and the places of
-/// the boards that moves lead to. `Positions` comes exactly where there are more boards than `limit`. `Memory` is the other
-/// error.
+/// The boards that play can come to from the start, which must be a board of the game, as [`reach`] lists them, and for
+/// each board what comes next after it: how many boards Left's moves lead to, that each is its own only part, and the
+/// places of the boards that moves lead to. `Positions` comes exactly where there are more boards than `limit`.
+/// `Memory` is the other error.
 pub fn open<R: Rules>(
     alloc: Global,
     rules: &R,
@@ -32,10 +32,10 @@ pub fn open<R: Rules>(
     open_all(alloc, rules, Edges::Moves, starts, limit)
 }
 
-/// The boards that play can come to from the pieces of the start, which must be a board of the game, as [`reach_pieces`] lists
-/// them, and for each board what comes next after it: how many boards Left's moves lead to, how many pieces each board has
-/// that a move leads to, and the places of these pieces. The rules must cut. `Positions` comes exactly where there are more
-/// boards than `limit`. `Memory` is the other error.
+/// The boards that play can come to from the pieces of the start, which must be a board of the game, as
+/// [`reach_pieces`] lists them, and for each board what comes next after it: how many boards Left's moves lead to, how
+/// many pieces each board has that a move leads to, and the places of these pieces. The rules must cut. `Positions`
+/// comes exactly where there are more boards than `limit`. `Memory` is the other error.
 pub fn open_pieces<R: Rules>(
     alloc: Global,
     rules: &R,
@@ -55,9 +55,9 @@ pub fn open_pieces<R: Rules>(
     open_all(alloc, rules, Edges::Pieces, starts, limit)
 }
 
-/// The boards that play can come to from the start, which must be a board of the game: those of each Left move in order,
-/// those of each Right move in order, then the start itself, each only where it comes first. `Positions` comes exactly
-/// where there are more than `limit`. `Memory` is the other error.
+/// The boards that play can come to from the start, which must be a board of the game: those of each Left move in
+/// order, those of each Right move in order, then the start itself, each only where it comes first. `Positions` comes
+/// exactly where there are more than `limit`. `Memory` is the other error.
 pub fn reach<R: Rules>(
     alloc: Global,
     rules: &R,
@@ -72,10 +72,10 @@ pub fn reach<R: Rules>(
     Ok(open(alloc, rules, start, limit)?.boards)
 }
 
-/// The boards that play can come to from the pieces of the start, which must be a board of the game; the rules must cut. For
-/// each piece in order these are those of the pieces of the boards that its Left moves lead to, those of its Right moves, then
-/// the piece itself, each only where it comes first. `Positions` comes exactly where there are more than `limit`. `Memory` is
-/// the other error.
+/// The boards that play can come to from the pieces of the start, which must be a board of the game; the rules must
+/// cut. For each piece in order these are those of the pieces of the boards that its Left moves lead to, those of its
+/// Right moves, then the piece itself, each only where it comes first. `Positions` comes exactly where there are more
+/// than `limit`. `Memory` is the other error.
 pub fn reach_pieces<R: Rules>(
     alloc: Global,
     rules: &R,

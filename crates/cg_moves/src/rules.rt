@@ -7,15 +7,16 @@ ghost use Rattle.cg_moves.specs.Rules.{GameRules, boards_after, cuts, pieces};
 use crate::{Board, Boards, Pieces, Player};
 use std::alloc::{AllocError, Global};
 
-/// The rules of a game, by what contracts see of them: which boards are boards of the game; the moves of each player on a
-/// board, by the cells that they lead to; a measure of boards; the game's number; and where the rules cut boards into pieces,
-/// the pieces of each board.
+/// The rules of a game, by what contracts see of them: which boards are boards of the game; the moves of each player on
+/// a board, by the cells that they lead to; a measure of boards; the game's number; and where the rules cut boards into
+/// pieces, the pieces of each board.
 ///
-/// Their laws: each move of a board of the game leads to a board of the game with a lower measure. Rows, columns and symbols
-/// stay. The number is below 16, and 0 where positions aren't noted in a table. Where the rules cut, each piece of a board of
-/// the game is a board of the game with the same symbols and at most the same measure, has a move, and is its own only piece;
-/// and each board is the sum of its pieces, up to equality of games. What is worth 0 need not be in any piece. The law
-/// function `cut_by_moves` gives the sum where each move of a board is a move in one piece that leaves the others as they are.
+/// Their laws: each move of a board of the game leads to a board of the game with a lower measure. Rows, columns and
+/// symbols stay. The number is below 16, and 0 where positions aren't noted in a table. Where the rules cut, each piece
+/// of a board of the game is a board of the game with the same symbols and at most the same measure, has a move, and is
+/// its own only piece; and each board is the sum of its pieces, up to equality of games. What is worth 0 need not be in
+/// any piece. The law function `cut_by_moves` gives the sum where each move of a board is a move in one piece that
+/// leaves the others as they are.
 pub trait Rules {
     ghost game: { Self → GameRules };
 
@@ -24,8 +25,8 @@ pub trait Rules {
         requires { (game self.now).has board.now ≡ true }
         ensures { IfOk result (λ boards. boards ≡ boards_after (game self.now) player board.now) };
 
-    /// Puts the boards that the player's moves lead to, in the order of the moves, into the room, in the place of those that are
-    /// there. The board must be one of the game.
+    /// Puts the boards that the player's moves lead to, in the order of the moves, into the room, in the place of those
+    /// that are there. The board must be one of the game.
     fn moves_into(
         &self,
         alloc: Global,
@@ -45,8 +46,8 @@ pub trait Rules {
         requires { (game self.now).has board.now ≡ true }
         ensures { IfOk result (λ pieces. pieces ≡ cutting (game self.now) board.now) };
 
-    /// Where the rules cut, puts the pieces of the board, in order, into the room, in the place of the boards that are there. Where
-    /// they don't, nothing is said of the room. The board must be one of the game.
+    /// Where the rules cut, puts the pieces of the board, in order, into the room, in the place of the boards that are
+    /// there. Where they don't, nothing is said of the room. The board must be one of the game.
     fn pieces_into(
         &self,
         alloc: Global,

@@ -24,8 +24,8 @@ pub(crate) struct Entered {
     pub(crate) pending: usize,
 }
 
-/// What is left to do in a walk: to note the place of a board that was visited; to visit all boards that come after a board, and
-/// then the board itself; or to visit the board itself, where the others were visited.
+/// What is left to do in a walk: to note the place of a board that was visited; to visit all boards that come after a
+/// board, and then the board itself; or to visit the board itself, where the others were visited.
 #[derive(Drop)]
 pub(crate) enum Task {
     Known(usize),

@@ -15,8 +15,8 @@ use crate::task::{Entered, Task, enter_all};
 use crate::{Adjacency, Board, Boards, PositionGraph, ReachFault, Rules};
 use std::alloc::{AllocError, Global};
 
-/// The boards that were visited, in their order, with what comes next after each of them; and the pending places: those of
-/// boards that come next after a board that was entered and isn't left yet, and of starts.
+/// The boards that were visited, in their order, with what comes next after each of them; and the pending places: those
+/// of boards that come next after a board that was entered and isn't left yet, and of starts.
 #[derive(Drop)]
 pub(crate) struct Visited {
     boards: Found,
@@ -26,8 +26,8 @@ pub(crate) struct Visited {
     pending: Vec<usize>,
 }
 
-/// Enters the board. If it was visited, its place is one of the pending ones. If not, the parts of the boards that moves lead
-/// to are to be entered, and then the board is to be left.
+/// Enters the board. If it was visited, its place is one of the pending ones. If not, the parts of the boards that
+/// moves lead to are to be entered, and then the board is to be left.
 fn enter<R: Rules>(
     alloc: Global,
     rules: &R,
@@ -95,8 +95,8 @@ fn put_places(
     Ok(())
 }
 
-/// Leaves the board, which was entered: it is visited, and of the pending places its own takes the place of those that come
-/// next after it.
+/// Leaves the board, which was entered: it is visited, and of the pending places its own takes the place of those that
+/// come next after it.
 #[inline(always)]
 fn leave(
     visited: &mut Visited,
@@ -167,8 +167,8 @@ fn step<R: Rules>(
     }
 }
 
-/// The boards that play can come to from the starts, and what comes next after each of them. `Positions` comes where there are
-/// more than the limit.
+/// The boards that play can come to from the starts, and what comes next after each of them. `Positions` comes where
+/// there are more than the limit.
 pub(crate) fn open_all<R: Rules>(
     alloc: Global,
     rules: &R,

@@ -19,8 +19,8 @@ fn write_row(text: &mut String, row: &[u8]) -> Result<(), AllocError>
     Ok(())
 }
 
-/// The text of the board: its rows with a bar between them. It reads back as the board; and where the board has one row, it
-/// does so also as a text of one row, in which a bar is a byte like others.
+/// The text of the board: its rows with a bar between them. It reads back as the board; and where the board has one
+/// row, it does so also as a text of one row, in which a bar is a byte like others.
 pub fn text(alloc: Global, board: &Board) -> Result<String, AllocError>
     ensures text { IfOk result (λ text. string_bytes text ≡ text_of board.now) }
     ensures reads_back { IfOk result (λ text. ReadsBack board.now false (string_bytes text)) }

@@ -1,5 +1,6 @@
 -- The braces that are open at once, counted on the text of a name.
-use Rattle.std.proofs.Common.{◌≡◌, refl, ap, sym, ◌∙◌, subst, ℕ, zero, suc, ◌+◌, ◌-◌, ◌^◌, ◌%◌, ◌<◌, ◌≤◌, max, arith, List, [], ◌∷◌, ◌++◌, append_assoc, Bool, true, false, cond, ◌==◌, nat_eq, ℤ, pos, negsuc, unsigned_abs}
+use Rattle.std.proofs.Common.{◌≡◌, refl, ap, sym, ◌∙◌, subst, ℕ, zero, suc, ◌+◌, ◌-◌, ◌^◌, ◌%◌, ◌<◌, ◌≤◌, max, arith, List, []}
+use Rattle.std.proofs.Common.{◌∷◌, ◌++◌, append_assoc, Bool, true, false, cond, ◌==◌, nat_eq, ℤ, pos, negsuc, unsigned_abs}
 use Rattle.std.specs.Prelude.{codes, decimal, if◌then◌else◌}
 use Rattle.std.specs.Fmt.{signed_decimal}
 use Rattle.std.proofs.lemmas.Fmt.{decimal_by_steps_wide}

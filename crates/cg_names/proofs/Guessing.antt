@@ -1,5 +1,6 @@
 -- The named form that a game has by its shape is the form that it is.
-use Rattle.std.proofs.Common.{◌≡◌, refl, ap, sym, ◌∙◌, ℕ, zero, suc, arith, inl, inr, List, [], ◌∷◌, length, Bool, true, false, not, cond, ◌&&◌, nat_eq, eq-eqb, Option, Some, None}
+use Rattle.std.proofs.Common.{◌≡◌, refl, ap, sym, ◌∙◌, ℕ, zero, suc, arith, inl, inr, List, [], ◌∷◌, length}
+use Rattle.std.proofs.Common.{Bool, true, false, not, cond, ◌&&◌, nat_eq, eq-eqb, Option, Some, None}
 use Rattle.std.specs.Prelude.{nat_lt, if◌then◌else◌}
 use Rattle.std.proofs.lemmas.Bool.Decides.{nat_tests}
 use Rattle.cg_dyadic.specs.Exact.{number_negative}

@@ -1,6 +1,7 @@
 -- What the shape of a game tells of its named form.
 use mathlib.Core.Bool.{beq}
-use Rattle.std.proofs.Common.{◌≡◌, refl, ap, sym, ◌∙◌, ℕ, zero, suc, ◌+◌, arith, add-one, inl, inr, ◌⊎◌, List, [], ◌∷◌, Bool, true, false, not, cond, Option, Some, None}
+use Rattle.std.proofs.Common.{◌≡◌, refl, ap, sym, ◌∙◌, ℕ, zero, suc, ◌+◌, arith, add-one, inl, inr}
+use Rattle.std.proofs.Common.{◌⊎◌, List, [], ◌∷◌, Bool, true, false, not, cond, Option, Some, None}
 use Rattle.cg_dyadic.proofs.Negatives.{double_negative}
 use Rattle.cg_dyadic.proofs.Truth.{not_not}
 use Rattle.cg_dyadic.specs.Number.{Number}
@@ -16,7 +17,8 @@ use Rattle.cg_names.specs.declared.named_form.NamedForm.{NamedForm}
 use Rattle.cg_names.specs.declared.named_form.NamedForm.TheVariants.{Star, Arrows}
 use Rattle.cg_names.proofs.Guessing.{found-form, one_value, named_form-found}
 use Rattle.cg_names.proofs.NameRule.{some_is}
-use Rattle.cg_names.proofs.NamedFormLists.{ArrowsShape, IsStep, arrows_shape, both, both_is, level, level_is, mirrored-others, mirrored-own, no_ups, not_number, one_star_form, star_above, step, step_is}
+use Rattle.cg_names.proofs.NamedFormLists.{ArrowsShape, IsStep, arrows_shape, both, both_is, level, level_is, mirrored-others}
+use Rattle.cg_names.proofs.NamedFormLists.{mirrored-own, no_ups, not_number, one_star_form, star_above, step, step_is}
 
 -- ---- lists of one
 

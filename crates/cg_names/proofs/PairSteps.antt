@@ -1,5 +1,6 @@
 -- Two numbers and the game of both, made one after another.
-use Rattle.std.proofs.Common.{◌≡◌, refl, ap, sym, ◌∙◌, subst, ℕ, ◌+◌, List, [], ◌∷◌, ◌++◌, append-nil, length, length-append, Bool, true, false, Result, Ok, Err}
+use Rattle.std.proofs.Common.{◌≡◌, refl, ap, sym, ◌∙◌, subst, ℕ, ◌+◌, List, [], ◌∷◌, ◌++◌, append-nil}
+use Rattle.std.proofs.Common.{length, length-append, Bool, true, false, Result, Ok, Err}
 use Rattle.std.specs.Prelude.{cond}
 use Rattle.cg_dyadic.specs.Number.{Number, NumberLe}
 use Rattle.cg_form.specs.Canonical.{Canonical}
@@ -12,7 +13,8 @@ use Rattle.cg_nodes.proofs.Later.{stands_game}
 use Rattle.cg_canon.specs.declared.fault.ValueFault.{ValueFault}
 use Rattle.cg_canon.specs.declared.rest.WorkRest.{WorkRest}
 use Rattle.cg_dyadic.specs.Exact.{number_negative}
-use Rattle.cg_names.specs.Named.{first_number, mirrored_if, other_numbers, pair_form, pair_positions, second_number, switch_form, tiny_form, tiny_part, zero_form, zero_number}
+use Rattle.cg_names.specs.Named.{first_number, mirrored_if, other_numbers, pair_form, pair_positions}
+use Rattle.cg_names.specs.Named.{second_number, switch_form, tiny_form, tiny_part, zero_form, zero_number}
 use Rattle.cg_names.proofs.Steps.{FormsMade, forms_after, forms_stopped}
 use Rattle.cg_names.proofs.SwitchForms.{switch-canonical, tiny_part-canonical}
 use Rattle.cg_names.proofs.SwitchPositions.{other_none, other_one, switch-positions, tiny-positions}

@@ -21,7 +21,8 @@ use Rattle.cg_names.proofs.StarredUps.{ups-plus_star}
 use Rattle.cg_form.proofs.EqualGames.{equal_assoc}
 use Rattle.cg_nimbers.proofs.IntegerMultiples.{sum_second}
 use Rattle.cg_names.proofs.Tokens.{other_append, star_is, ups_are, ups_other}
-use Rattle.cg_names.proofs.Terms.{alone, arrows_tail, base_gone, base_there, joined, nim_tail, number_other, number_term, number_tree, optional_nim, starred_text, starred_tree, tree-number, zero_or_not, Reading}
+use Rattle.cg_names.proofs.Terms.{alone, arrows_tail, base_gone, base_there, joined, nim_tail, number_other, number_term}
+use Rattle.cg_names.proofs.Terms.{number_tree, optional_nim, starred_text, starred_tree, tree-number, zero_or_not, Reading}
 
 pub star-reads : (k : ℕ) (x : Number) (n : ℕ) (g : Game) → InRange x → n < 10 ^ 30
     → Equal g (sum (tree.number x) (nimber_form n)) → Reading k g (base_text x ++ star_text n)

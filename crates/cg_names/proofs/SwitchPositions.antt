@@ -7,7 +7,8 @@ use Rattle.cg_form.specs.Game.{Among, Game, number}
 use Rattle.cg_form.specs.Positions.{all_positions, once, positions_of}
 use Rattle.cg_form.specs.Structure.{is_same}
 use Rattle.cg_dyadic.specs.Exact.{number_negative}
-use Rattle.cg_names.specs.Named.{first_number, other_numbers, pair_form, pair_positions, second_number, switch_form, tiny_form, tiny_part, zero_form, zero_number}
+use Rattle.cg_names.specs.Named.{first_number, other_numbers, pair_form, pair_positions, second_number}
+use Rattle.cg_names.specs.Named.{switch_form, tiny_form, tiny_part, zero_form, zero_number}
 use Rattle.cg_form.proofs.Once.{once-first, once-known_new, once-new}
 use Rattle.cg_form.proofs.Structure.{is_same-back, is_same-refl}
 use Rattle.cg_nodes.proofs.PositionSizes.{not_position-far}

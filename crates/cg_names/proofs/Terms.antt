@@ -1,5 +1,6 @@
 -- Names as terms of the grammar, and what they mean: numbers, and what may stand behind them.
-use Rattle.std.proofs.Common.{◌≡◌, refl, ap, ℕ, suc, ◌^◌, ◌<◌, ◌≤◌, arith, inl, inr, ◌⊎◌, List, [], ◌∷◌, ◌++◌, append-nil, Bool, true, false, cond, nat_eq, Option, Some, None, ℤ, pos, negsuc, unsigned_abs}
+use Rattle.std.proofs.Common.{◌≡◌, refl, ap, ℕ, suc, ◌^◌, ◌<◌, ◌≤◌, arith, inl, inr, ◌⊎◌, List, [], ◌∷◌, ◌++◌, append-nil}
+use Rattle.std.proofs.Common.{Bool, true, false, cond, nat_eq, Option, Some, None, ℤ, pos, negsuc, unsigned_abs}
 use Rattle.std.specs.Prelude.{decimal, if◌then◌else◌}
 use Rattle.std.proofs.Math.Pow.{pow-lt}
 use Rattle.std.specs.Fmt.{signed_decimal}

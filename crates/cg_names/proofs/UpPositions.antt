@@ -1,5 +1,6 @@
 -- The positions of ups and downs.
-use Rattle.std.proofs.Common.{◌≡◌, refl, append_assoc, append-nil, ℕ, ◌+◌, ◌≤◌, arith, zero, suc, ◌⊎◌, inl, inr, ap, sym, ◌∙◌, List, [], ◌∷◌, ◌++◌, length, length-append, Bool, true, false, not}
+use Rattle.std.proofs.Common.{◌≡◌, refl, append_assoc, append-nil, ℕ, ◌+◌, ◌≤◌, arith, zero, suc, ◌⊎◌, inl, inr}
+use Rattle.std.proofs.Common.{ap, sym, ◌∙◌, List, [], ◌∷◌, ◌++◌, length, length-append, Bool, true, false, not}
 use Rattle.cg_form.specs.Game.{Among, Game}
 use Rattle.cg_form.proofs.Among.{carry}
 use Rattle.cg_form.specs.Positions.{all_positions, once, positions_of}

@@ -8,7 +8,8 @@ use Rattle.cg_form.specs.Sum.{negative as minus, sum as plus}
 use Rattle.cg_form.specs.Multiple.{multiple as many}
 use Rattle.cg_names.specs.Named.{nimber_form, ups_form, switch_form, tiny_form}
 use Rattle.cg_query.specs.declared.kind.GameKind.{GameKind}
-use Rattle.cg_query.specs.Tree.{Tree, Trees, Terms, number, ups, nimber, switch, tiny, sides, negative, multiple, sum, game, octal, used, no_trees, with_tree, no_terms, with_term}
+use Rattle.cg_query.specs.Tree.{Tree, Trees, Terms, number, ups, nimber, switch, tiny, sides, negative}
+use Rattle.cg_query.specs.Tree.{multiple, sum, game, octal, used, no_trees, with_tree, no_terms, with_term}
 
 -- the exponent k of 2 ^ k, if the number is such a power with k at most n
 unfoldable pub exponent_within : ℕ → ℕ → Option ℕ

@@ -1,5 +1,6 @@
 //! Laws of the named games. Each function does nothing: its contract is the law.
-ghost use Rattle.std.specs.Prelude.{ℕ, ◌≤◌, ◌<◌, ◌^◌, List, Bool, true, false, ◌≡◌, ◌+◌, ◌↔◌, suc, length, [], ◌∷◌, ◌++◌, Option};
+ghost use Rattle.std.specs.Prelude.{ℕ, ◌≤◌, ◌<◌, ◌^◌, List, Bool, true, false, ◌≡◌};
+ghost use Rattle.std.specs.Prelude.{◌+◌, ◌↔◌, suc, length, [], ◌∷◌, ◌++◌, Option};
 ghost use Rattle.cg_dyadic.specs.Number.{Number, NumberLe};
 ghost use Rattle.cg_dyadic.specs.Exact.{IsFromDigits, IsQuotient, number_negative};
 ghost use Rattle.cg_form.specs.Canonical.{Canonical};
@@ -16,7 +17,8 @@ ghost use Rattle.cg_names.specs.Name.{IsName};
 ghost use Rattle.cg_names.specs.Reading.{IsNameInRange, ReadsAs, most_open};
 ghost use Rattle.cg_names.specs.NamedForms.{Fits};
 ghost use Rattle.cg_names.specs.declared.named_form.NamedForm.{NamedForm};
-ghost use Rattle.cg_names.specs.Named.{zero_number, star_form, nimber_form, nimbers_below, ups_of, ups_chain, pair_positions, switch_form, tiny_form, first_number, second_number};
+ghost use Rattle.cg_names.specs.Named.{zero_number, star_form, nimber_form, nimbers_below, ups_of, ups_chain};
+ghost use Rattle.cg_names.specs.Named.{pair_positions, switch_form, tiny_form, first_number, second_number};
 
 /// The named games are canonical: no position of one has a dominated or a reversible option, or equals a number and
 /// isn't written as one, and each list of options rises in the structural order. Switches, tinies and minies are so
@@ -56,9 +58,9 @@ pub fn literals()
         below num den }
 {}
 
-/// Names: every game has exactly one by the rules, and at most one rule with a named form fits, with one number and one count.
-/// A canonical game with a number added throughout is the canonical form of the sum, so `x + *n` has the canonical form
-/// of `*n` with x in the place of 0; and `n.^*` is `n.^ + *`.
+/// Names: every game has exactly one by the rules, and at most one rule with a named form fits, with one number and one
+/// count. A canonical game with a number added throughout is the canonical form of the sum, so `x + *n` has the
+/// canonical form of `*n` with x in the place of 0; and `n.^*` is `n.^ + *`.
 pub fn names()
     ensures named { (g : Game) → (text : List ℕ) × IsName g text }
     ensures one_name { (g : Game) (text other : List ℕ) → IsName g text → IsName g other → text ≡ other }
@@ -67,9 +69,9 @@ pub fn names()
     ensures starred { (down : Bool) (n : ℕ) → Equal (sum (ups_of down false n) star_form) (ups_of down true n) }
 {}
 
-/// A name in whose text at most 64 braces are open at once is an expression of the grammar, and the game is the canonical
-/// form of what it means; the numbers in the name have to be in range, and its counts to have at most thirty digits. That
-/// is so where the numbers of the game are in range, and its depth is below 10^30.
+/// A name in whose text at most 64 braces are open at once is an expression of the grammar, and the game is the
+/// canonical form of what it means; the numbers in the name have to be in range, and its counts to have at most thirty
+/// digits. That is so where the numbers of the game are in range, and its depth is below 10^30.
 pub fn names_read_back()
     ensures reads { (g : Game) (text : List ℕ) → Canonical g → IsName g text → IsNameInRange g → most_open 0 text ≤ 64
         → ReadsAs g text }

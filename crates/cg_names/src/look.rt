@@ -20,7 +20,8 @@ use cg_dyadic::Dyadic;
 use cg_nodes::{BoardForms, GameFacts, Handle, ListId, Reading, handles, read};
 use std::alloc::{AllocError, Global};
 
-/// What a handle stands for: a number, or a game with its lists of Left and of Right options and its named form, if it has one.
+/// What a handle stands for: a number, or a game with its lists of Left and of Right options and its named form, if it
+/// has one.
 #[derive(Clone, Copy, Debug)]
 pub(crate) enum Shape {
     /// A number.
@@ -29,8 +30,8 @@ pub(crate) enum Shape {
     Game(ListId, ListId, Option<NamedForm>),
 }
 
-/// What the handle stands for. The named form of each game is found once, and from then on is in the memo. The only error is want
-/// of memory.
+/// What the handle stands for. The named form of each game is found once, and from then on is in the memo. The only
+/// error is want of memory.
 #[cycle(look)]
 pub(crate) fn look<B: BoardForms, S: CellStore<GameFacts<B>>>(
     alloc: Global,

@@ -110,8 +110,8 @@ fn level_at(x: Dyadic, count: u64) -> Option<ArrowsFound>
     }
 }
 
-/// The named form of `{own|last}` where own has another number of options than one, or of its mirror image where it is `down`:
-/// of these only `{x,x + *|x}` has one, which is `x + ^*`.
+/// The named form of `{own|last}` where own has another number of options than one, or of its mirror image where it is
+/// `down`: of these only `{x,x + *|x}` has one, which is `x + ^*`.
 pub(crate) fn starred_arrow<B: BoardForms, S: CellStore<GameFacts<B>>>(
     store: &mut S,
     down: bool,

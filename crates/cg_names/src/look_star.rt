@@ -61,7 +61,8 @@ fn star_base(named_form: &Option<NamedForm>) -> Option<Dyadic>
     }
 }
 
-/// The number x where the games are x, x + *, x + *2 and so on, of which the last one has this named form and these Left options.
+/// The number x where the games are x, x + *, x + *2 and so on, of which the last one has this named form and these
+/// Left options.
 pub(crate) fn star_on<B: BoardForms, S: CellStore<GameFacts<B>>>(
     store: &mut S,
     lefts: ListId,

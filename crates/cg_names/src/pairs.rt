@@ -8,7 +8,8 @@ ghost use Rattle.cg_nodes.specs.Games.{StandsFor};
 ghost use Rattle.cg_canon.specs.Made.{Gives, ItemsMade};
 ghost use Rattle.cg_canon.specs.Works.{work_state};
 ghost use Rattle.cg_names.specs.Lists.{form_items, number_items, plain_item};
-ghost use Rattle.cg_names.specs.Named.{other_numbers, pair_form, pair_positions, first_number, second_number, switch_form, tiny_form, zero_number};
+ghost use Rattle.cg_names.specs.Named.{other_numbers, pair_form, pair_positions, first_number};
+ghost use Rattle.cg_names.specs.Named.{second_number, switch_form, tiny_form, zero_number};
 
 use crate::making::{make, make_number};
 use crate::numbers::{is_same, opposite};

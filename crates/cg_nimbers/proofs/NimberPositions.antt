@@ -1,5 +1,6 @@
 -- The positions of nimbers.
-use Rattle.std.proofs.Common.{◌≡◌, refl, append_assoc, append-nil, ℕ, ◌+◌, arith, zero, suc, inl, inr, ap, sym, ◌∙◌, List, [], ◌∷◌, ◌++◌, length, length-append, add-one, true}
+use Rattle.std.proofs.Common.{◌≡◌, refl, append_assoc, append-nil, ℕ, ◌+◌, arith, zero, suc, inl, inr}
+use Rattle.std.proofs.Common.{ap, sym, ◌∙◌, List, [], ◌∷◌, ◌++◌, length, length-append, add-one, true}
 use Rattle.cg_form.specs.Game.{Among, Game, of_list}
 use Rattle.cg_form.proofs.Among.{among-append, carry}
 use Rattle.cg_form.proofs.Preorder.{at_right, le_refl}

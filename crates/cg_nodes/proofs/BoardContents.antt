@@ -1,5 +1,6 @@
 -- The test of a board's contents holds exactly of what is written.
-use Rattle.std.proofs.Common.{◌≡◌, refl, ℕ, zero, suc, ◌+◌, ◌-◌, ◌*◌, ◌/◌, ◌%◌, ◌<◌, ◌≤◌, ◌==◌, ◌&&◌, ◌↔◌, ◌⊎◌, inl, inr, Bool, true, false, if◌then◌else◌, min, nat_lt, List, [], ◌∷◌, ◌++◌, length, length-append, Some, arith, ap, sym, ◌∙◌}
+use Rattle.std.proofs.Common.{◌≡◌, refl, ℕ, zero, suc, ◌+◌, ◌-◌, ◌*◌, ◌/◌, ◌%◌, ◌<◌, ◌≤◌, ◌==◌, ◌&&◌, ◌↔◌, ◌⊎◌, inl, inr, Bool, true}
+use Rattle.std.proofs.Common.{false, if◌then◌else◌, min, nat_lt, List, [], ◌∷◌, ◌++◌, length, length-append, Some, arith, ap, sym, ◌∙◌}
 use Rattle.std.proofs.lemmas.Bool.Decides.{eqb_tells, nat_tests}
 use Rattle.cg_cells.proofs.Layouts.{both, both_back, lt_back, lt_true}
 use Rattle.cg_nodes.specs.Boards.{AreBelow, AreWritten, IsBoard, are_contents, are_of_board, are_symbols, content_of, symbols}

@@ -1,5 +1,6 @@
 -- Numbers put into cells and read from them.
-use Rattle.std.proofs.Common.{◌≡◌, ℕ, ◌+◌, ◌-◌, ◌*◌, ◌/◌, ◌%◌, ◌^◌, ◌<◌, ◌≤◌, ◌⊎◌, inl, inr, Bool, true, false, IsTrue, not, ℤ, pos, negsuc, ◌+ℤ◌, unsigned_abs, List, [], ◌∷◌, Option, Some, arith, rules, ap, sym, refl, ◌∙◌}
+use Rattle.std.proofs.Common.{◌≡◌, ℕ, ◌+◌, ◌-◌, ◌*◌, ◌/◌, ◌%◌, ◌^◌, ◌<◌, ◌≤◌, ◌⊎◌, inl, inr, Bool, true, false, IsTrue, not, ℤ}
+use Rattle.std.proofs.Common.{pos, negsuc, ◌+ℤ◌, unsigned_abs, List, [], ◌∷◌, Option, Some, arith, rules, ap, sym, refl, ◌∙◌}
 use Rattle.std.proofs.lemmas.Int.{ints}
 use Rattle.std.specs.Prelude.{if◌then◌else◌}
 use Rattle.cg_dyadic.specs.Number.{InRange, Number, between, exp_of, is_long, is_narrow, num_of, ratio, whole}

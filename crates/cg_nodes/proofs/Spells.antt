@@ -1,5 +1,6 @@
 -- What the keys of numbers, lists and games spell.
-use Rattle.std.proofs.Common.{◌≡◌, ℕ, ℤ, pos, ◌+◌, ◌*◌, ◌≤◌, ◌<◌, ◌^◌, Option, Some, None, IsSome, List, [], ◌∷◌, unsigned_abs, arith, ap, sym, refl, ◌∙◌, subst}
+use Rattle.std.proofs.Common.{◌≡◌, ℕ, ℤ, pos, ◌+◌, ◌*◌, ◌≤◌, ◌<◌, ◌^◌, Option, Some, None, IsSome}
+use Rattle.std.proofs.Common.{List, [], ◌∷◌, unsigned_abs, arith, ap, sym, refl, ◌∙◌, subst}
 use Rattle.cg_dyadic.specs.Number.{ratio, whole, InRange}
 use Rattle.cg_dyadic.proofs.Fractions.{ratio-lowest}
 use Rattle.cg_form.specs.Game.{Game, number, node}

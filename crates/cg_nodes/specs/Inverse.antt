@@ -11,7 +11,8 @@ use Rattle.cg_nodes.specs.Meant.{Meant, form, list, contents, pair, board}
 use Rattle.cg_nodes.specs.Boards.{are_of_board}
 use Rattle.cg_nodes.specs.LongKeys.{IsLongWritten, long_written}
 use Rattle.cg_nodes.specs.Longs.{is_long_written, num_in}
-use Rattle.cg_nodes.specs.Spelled.{Map, form_in, list_in, contents_in, list_at, contents_at, longer, longer_by, form_if, game_of_lists, pair_of, board_if, board_of, long_of, spelled}
+use Rattle.cg_nodes.specs.Spelled.{Map, form_in, list_in, contents_in, list_at, contents_at, longer, longer_by}
+use Rattle.cg_nodes.specs.Spelled.{form_if, game_of_lists, pair_of, board_if, board_of, long_of, spelled}
 
 pub form_in-back : (o : Option Meant) (g : Game) → form_in o ≡ Some g → o ≡ Some (form g)
 form_in-back None g e = cc

@@ -1,5 +1,6 @@
 -- What follows from the chunks of a long number. These lemmas stand here since the laws of the facts rest on them.
-use Rattle.std.proofs.Common.{◌≡◌, ℕ, ◌+◌, ◌*◌, ◌/◌, ◌%◌, ◌^◌, ◌<◌, ◌≤◌, Bool, true, false, IsTrue, nat_lt, ℤ, unsigned_abs, [], ◌∷◌, arith, rules, sym, refl, subst}
+use Rattle.std.proofs.Common.{◌≡◌, ℕ, ◌+◌, ◌*◌, ◌/◌, ◌%◌, ◌^◌, ◌<◌, ◌≤◌, Bool, true, false, IsTrue}
+use Rattle.std.proofs.Common.{nat_lt, ℤ, unsigned_abs, [], ◌∷◌, arith, rules, sym, refl, subst}
 use Rattle.cg_dyadic.specs.Number.{InRange, Number, exp_of, is_long, num_of, ratio}
 use Rattle.cg_dyadic.specs.Exact.{IsLowest}
 use Rattle.cg_dyadic.proofs.Fractions.{ratio-lowest}

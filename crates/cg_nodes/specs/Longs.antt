@@ -1,6 +1,7 @@
 -- Long numbers in cells: two chunks of 32 bits, the least first, are the numerator in two's complement of 64 bits, and the key
 -- has the sign and the exponent.
-use Rattle.std.specs.Prelude.{ℕ, ℤ, pos, negsuc, ◌+◌, ◌-◌, ◌*◌, ◌/◌, ◌%◌, ◌^◌, ◌==◌, ◌&&◌, ◌||◌, nat_lt, unsigned_abs, Bool, true, false, if◌then◌else◌, List, [], ◌∷◌}
+use Rattle.std.specs.Prelude.{ℕ, ℤ, pos, negsuc, ◌+◌, ◌-◌, ◌*◌, ◌/◌, ◌%◌, ◌^◌, ◌==◌, ◌&&◌, ◌||◌}
+use Rattle.std.specs.Prelude.{nat_lt, unsigned_abs, Bool, true, false, if◌then◌else◌, List, [], ◌∷◌}
 use Rattle.cg_dyadic.specs.Number.{Number, is_long, ratio}
 
 -- the low 64 bits of the numerator, as they are written

@@ -36,8 +36,8 @@ impl Drop for Thing {
     }
 }
 
-/// What boards stand for: for the number of a board's game, its rows, its columns and the contents of its cells, the form of
-/// the position. It has no functions.
+/// What boards stand for: for the number of a board's game, its rows, its columns and the contents of its cells, the
+/// form of the position. It has no functions.
 pub trait BoardForms {
     ghost form: { ℕ → ℕ → ℕ → List ℕ → Game };
 }
@@ -49,11 +49,12 @@ impl BoardForms for NoBoards {
     ghost form = { λ number_of_game rows columns contents. number (whole (pos 0)) };
 }
 
-/// The facts of the cells of games. A key spells the thing of its kind that is made of its fields and of the things of the
-/// ids that it names. The key of a game spells one only where that game is canonical and so equals no number. The key of a
-/// long number spells it only where its chunks are those of a number that is long and in lowest terms. The key of a
-/// board spells one only where its game's number is 1 to 4, it has 1 to 64 cells, and its contents are exactly those of a
-/// board of that game's symbols. A note on a pair must spell the canonical form of the sum, and a note on a board that of the board's form.
+/// The facts of the cells of games. A key spells the thing of its kind that is made of its fields and of the things of
+/// the ids that it names. The key of a game spells one only where that game is canonical and so equals no number. The
+/// key of a long number spells it only where its chunks are those of a number that is long and in lowest terms. The key
+/// of a board spells one only where its game's number is 1 to 4, it has 1 to 64 cells, and its contents are exactly
+/// those of a board of that game's symbols. A note on a pair must spell the canonical form of the sum, and a note on a
+/// board that of the board's form.
 pub struct GameFacts<B: BoardForms> {
     of: PhantomData<B>,
 }

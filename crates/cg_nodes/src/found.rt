@@ -1,5 +1,6 @@
 //! Handles that were found, each once.
-ghost use Rattle.std.specs.Prelude.{◌≡◌, ◌==◌, ℕ, ◌<◌, ◌≤◌, ◌^◌, ◌∷◌, ◌++◌, [], IfOk, OnOk, OnErr, IsTrue, ◌↔◌, length, Err};
+ghost use Rattle.std.specs.Prelude.{◌≡◌, ◌==◌, ℕ, ◌<◌, ◌≤◌, ◌^◌, ◌∷◌, ◌++◌, []};
+ghost use Rattle.std.specs.Prelude.{IfOk, OnOk, OnErr, IsTrue, ◌↔◌, length, Err};
 ghost use Rattle.std.specs.HashSet.{contains};
 ghost use Rattle.cg_cells.specs.Meaning.{Has};
 
@@ -63,7 +64,8 @@ impl Found {
         }
     }
 
-    /// Puts one more handle behind those that were found, of which there may be so many. After an error they are as before.
+    /// Puts one more handle behind those that were found, of which there may be so many. After an error they are as
+    /// before.
     pub fn add(&mut self, handle: Handle, limit: u64) -> Result<(), PositionsFault>
         requires { length self.old ≤ limit }
         ensures added { OnOk result (self.new ≡ self.old ++ (handle ∷ [])) }

@@ -73,7 +73,8 @@ pub fn list<B: BoardForms, S: CellStore<GameFacts<B>>>(store: &mut S, options: &
     list
 }
 
-// Tells the store that the list of these games may be claimed soon. It answers the id that the list would most likely have.
+// Tells the store that the list of these games may be claimed soon. It answers the id that the list would most likely
+// have.
 fn prefetch_list<B: BoardForms, S: CellStore<GameFacts<B>>>(
     store: &mut S,
     options: &[Handle],
@@ -88,8 +89,8 @@ fn prefetch_list<B: BoardForms, S: CellStore<GameFacts<B>>>(
     list
 }
 
-/// Tells the store that the game of the lists of these Left and Right options may be claimed soon, so that it may bring the cells
-/// of both lists and of the game near. Nothing that contracts see changes.
+/// Tells the store that the game of the lists of these Left and Right options may be claimed soon, so that it may bring
+/// the cells of both lists and of the game near. Nothing that contracts see changes.
 pub fn prefetch_game<B: BoardForms, S: CellStore<GameFacts<B>>>(
     store: &mut S,
     lefts: &[Handle],
@@ -109,8 +110,8 @@ pub fn prefetch_game<B: BoardForms, S: CellStore<GameFacts<B>>>(
     }
 }
 
-/// The handle of the game with these lists of Left and Right options, which must be canonical and so equals no number. It
-/// spends one claim.
+/// The handle of the game with these lists of Left and Right options, which must be canonical and so equals no number.
+/// It spends one claim.
 pub fn game<B: BoardForms, S: CellStore<GameFacts<B>>>(
     store: &mut S,
     lefts: ListId,

@@ -6,7 +6,8 @@ ghost use Rattle.cg_form.specs.Game.{lefts, rights};
 ghost use Rattle.cg_cells.specs.Layout.{FieldsFit};
 ghost use Rattle.cg_cells.specs.declared.key.KeyParts.TheVariants as parts;
 ghost use Rattle.cg_cells.specs.Store.{Spends};
-ghost use Rattle.cg_nodes.specs.Games.{IsGame, game_at, IsList, listed, IsRead, IsHead, IsKind, IsNode, IsInRange, StandFor};
+ghost use Rattle.cg_nodes.specs.Games.{IsGame, game_at, IsList, listed, IsRead};
+ghost use Rattle.cg_nodes.specs.Games.{IsHead, IsKind, IsNode, IsInRange, StandFor};
 ghost use Rattle.cg_nodes.specs.Ranges.{AllInRange};
 
 use crate::long::read_long;
@@ -73,8 +74,8 @@ pub fn read<B: BoardForms, S: CellStore<GameFacts<B>>>(store: &mut S, handle: Ha
     }
 }
 
-/// A known game is canonical, and each number in its tree is in range. It does nothing, and its contract is the fact: where
-/// [`read`] tells it of the number that is read, this tells it of the whole tree.
+/// A known game is canonical, and each number in its tree is in range. It does nothing, and its contract is the fact:
+/// where [`read`] tells it of the number that is read, this tells it of the whole tree.
 pub fn known_game<B: BoardForms, S: CellStore<GameFacts<B>>>(store: &S, handle: Handle)
     requires { IsGame (S.state store.now) handle }
     ensures canonical { Canonical (game_at (S.state store.now) handle) }

@@ -109,9 +109,9 @@ fn parting_of_games<B: BoardForms, S: CellStore<GameFacts<B>>>(
     }
 }
 
-/// The structural order: numbers before other games, and by value; other games by their lists of Left options, then by their
-/// lists of Right options. Lists are compared entry by entry, and a proper prefix comes first. `Equal` comes exactly for the
-/// same handle. It takes no memory, and follows one option of each game at most.
+/// The structural order: numbers before other games, and by value; other games by their lists of Left options, then by
+/// their lists of Right options. Lists are compared entry by entry, and a proper prefix comes first. `Equal` comes
+/// exactly for the same handle. It takes no memory, and follows one option of each game at most.
 pub fn compare_structure<B: BoardForms, S: CellStore<GameFacts<B>>>(
     store: &mut S,
     a: Handle,

@@ -13,7 +13,8 @@ use crate::{BoardForms, GameFacts, Handle, Handles, ListId, PositionsFault, Read
 use cg_cells::CellStore;
 use std::alloc::Global;
 
-// Puts the positions of the game behind those that were found. A game that was found before has all of its positions there.
+// Puts the positions of the game behind those that were found. A game that was found before has all of its positions
+// there.
 #[cycle(walk)]
 fn walk_game<B: BoardForms, S: CellStore<GameFacts<B>>>(
     store: &mut S,

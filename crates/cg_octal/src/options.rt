@@ -1,7 +1,8 @@
 //! The values of the options of a heap, from those of the lesser heaps.
 ghost use Rattle.std.specs.Prelude.{◌≡◌, ◌<◌, ◌≤◌, ◌/◌, ◌∷◌, ◌++◌, [], IfOk, if◌then◌else◌, length, suc};
 ghost use Rattle.cg_octal.specs.Found.{Adds};
-ghost use Rattle.cg_octal.specs.Heaps.{AreValues, digit_options, heap, heap_options, leaves_nothing, leaves_one_heap, leaves_two_heaps, two_heaps};
+ghost use Rattle.cg_octal.specs.Heaps.{AreValues, digit_options, heap, heap_options, leaves_nothing};
+ghost use Rattle.cg_octal.specs.Heaps.{leaves_one_heap, leaves_two_heaps, two_heaps};
 
 use std::alloc::AllocError;
 
@@ -77,8 +78,8 @@ fn with_digit_options(
     }
 }
 
-/// The list, with the values behind it of the options of a heap of `count` tokens by the further digits, of which the first
-/// is that of removing one token.
+/// The list, with the values behind it of the options of a heap of `count` tokens by the further digits, of which the
+/// first is that of removing one token.
 pub(crate) fn with_options(
     digits: &[u8],
     values: &[u64],

@@ -57,9 +57,9 @@ fn with_digits(bytes: &[u8], found: Vec<u8>) -> Result<Vec<u8>, AllocError>
 
 /// The octal game of the code, and the heap of it.
 ///
-/// A code is `0.` and 1 to 16 digits from 0 to 7. `Code` comes exactly where the text is no code, with 1 plus the length of
-/// its longest prefix that begins one. Else `Heap` comes exactly where the heap has more than 1,000 tokens. `Memory` is the
-/// other error.
+/// A code is `0.` and 1 to 16 digits from 0 to 7. `Code` comes exactly where the text is no code, with 1 plus the
+/// length of its longest prefix that begins one. Else `Heap` comes exactly where the heap has more than 1,000 tokens.
+/// `Memory` is the other error.
 pub fn read(alloc: Global, code: &[u8], heap: u128) -> Result<Octal, OctalFault>
     ensures read { IsRead code.now heap result }
     ensures digits { IfOk result (λ octal. octal.digits ≡ digits_of code.now) }

@@ -1,5 +1,6 @@
 -- Games on adjacent cells cut boards into their joined sets.
-use Rattle.std.proofs.Common.{◌≡◌, refl, ℕ, ◌*◌, ◌<◌, ◌≤◌, Bool, true, filter, length, ap, sym, ◌∙◌, arith, suc, ◌+◌, inl, inr, cond, if◌then◌else◌, List, [], ◌∷◌, slice_index}
+use Rattle.std.proofs.Common.{◌≡◌, refl, ℕ, ◌*◌, ◌<◌, ◌≤◌, Bool, true, filter, length, ap, sym, ◌∙◌, arith}
+use Rattle.std.proofs.Common.{suc, ◌+◌, inl, inr, cond, if◌then◌else◌, List, [], ◌∷◌, slice_index}
 use Rattle.std.specs.Prelude.{count_by}
 use Rattle.cg_moves.specs.CutByMoves.{IsCutByMoves}
 use Rattle.cg_moves.specs.Grid.{Grid}

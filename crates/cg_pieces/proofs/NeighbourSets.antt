@@ -1,6 +1,7 @@
 -- Joined sets of adjacent cells: what is computed is what is so.
 use Rattle.std.proofs.lemmas.Bool.Decides.{nat_tests}
-use Rattle.std.proofs.Common.{◌≡◌, refl, ℕ, zero, suc, ◌<◌, ◌≤◌, ◌&&◌, ◌||◌, ◌⊎◌, inl, inr, Bool, true, not, IsTrue, nat_le, List, [], ◌∷◌, filter, length, slice_index, arith}
+use Rattle.std.proofs.Common.{◌≡◌, refl, ℕ, zero, suc, ◌<◌, ◌≤◌, ◌&&◌, ◌||◌, ◌⊎◌, inl, inr, Bool, true}
+use Rattle.std.proofs.Common.{not, IsTrue, nat_le, List, [], ◌∷◌, filter, length, slice_index, arith}
 use Rattle.std.specs.List.{flat_map, list_all, list_any}
 use Rattle.std.proofs.lemmas.Bool.{le-leb, leb-true}
 use Rattle.cg_dyadic.proofs.Truth.{and-both, and-split, false-from, not_true, true-or-not, true_not}
@@ -15,7 +16,8 @@ use Rattle.cg_moves.proofs.ForGames.{choice-in, in-choice, inside}
 use Rattle.cg_moves.proofs.Members.{in-flat_map, in_flat_mapped}
 use Rattle.cg_pieces.specs.Cells.{CellGame, Distinct, First, IsCellGame, Joined}
 use Rattle.cg_pieces.specs.Cells.Linked.{here, step}
-use Rattle.cg_pieces.specs.Neighbours.{IsNeighbours, Neighbours, are_joined, are_linked, cell_game, has_move, has_move_at, is_below, is_beside, is_first, is_least, is_next, is_piece_cell, link, links, may_move}
+use Rattle.cg_pieces.specs.Neighbours.{IsNeighbours, Neighbours, are_joined, are_linked, cell_game, has_move, has_move_at}
+use Rattle.cg_pieces.specs.Neighbours.{is_below, is_beside, is_first, is_least, is_next, is_piece_cell, link, links, may_move}
 use Rattle.cg_moves.proofs.Counted.{counted-from, in_counted}
 use Rattle.cg_pieces.proofs.Bounds.{filter-in, in-filter}
 

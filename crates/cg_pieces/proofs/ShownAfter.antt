@@ -1,5 +1,6 @@
 -- A move in a joined set, on the board and on the set's board: it changes two cells alike on both.
-use Rattle.std.proofs.Common.{◌≡◌, refl, ℕ, ◌<◌, ◌&&◌, ◌⊎◌, ◌↔◌, inl, inr, Bool, true, List, length, slice_index, ap, sym, ◌∙◌, arith, ◌≢◌, slice_set, get_or-set_other, get_or-set_same, length-set}
+use Rattle.std.proofs.Common.{◌≡◌, refl, ℕ, ◌<◌, ◌&&◌, ◌⊎◌, ◌↔◌, inl, inr, Bool, true, List, length, slice_index}
+use Rattle.std.proofs.Common.{ap, sym, ◌∙◌, arith, ◌≢◌, slice_set, get_or-set_other, get_or-set_same, length-set}
 use Rattle.cg_dyadic.proofs.Truth.{differ}
 use Rattle.cg_form.proofs.Cut.{same_when}
 use Rattle.cg_moves.specs.declared.player.Player.{Player}

@@ -1,5 +1,6 @@
 -- The cells with a symbol, in a word of the board, and boards on which two cells get other symbols.
-use Rattle.std.proofs.Common.{◌≡◌, ℕ, ◌==◌, inl, inr, if◌then◌else◌, List, length, slice_index, ap, sym, ◌∙◌, refl, ◌<◌, arith, length-set, Bool, true, false, ◌≤◌, ◌^◌}
+use Rattle.std.proofs.Common.{◌≡◌, ℕ, ◌==◌, inl, inr, if◌then◌else◌, List, length, slice_index, ap}
+use Rattle.std.proofs.Common.{sym, ◌∙◌, refl, ◌<◌, arith, length-set, Bool, true, false, ◌≤◌, ◌^◌}
 use Rattle.std.specs.Prelude.{Contains, slice_set}
 use Rattle.std.specs.Int.{bit_at}
 use Rattle.std.proofs.lemmas.Bool.{eqb-true}

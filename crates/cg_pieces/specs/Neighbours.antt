@@ -1,5 +1,6 @@
 -- Games in which a move changes two orthogonally adjacent cells that form pieces.
-use Rattle.std.specs.Prelude.{◌≡◌, ℕ, ◌+◌, ◌*◌, ◌<◌, ◌==◌, ◌&&◌, ◌||◌, Bool, false, true, not, nat_le, if◌then◌else◌, Some, List, [], ◌∷◌, count_by, filter, length, slice_index, slice_set}
+use Rattle.std.specs.Prelude.{◌≡◌, ℕ, ◌+◌, ◌*◌, ◌<◌, ◌==◌, ◌&&◌, ◌||◌, Bool, false, true, not, nat_le, if◌then◌else◌}
+use Rattle.std.specs.Prelude.{Some, List, [], ◌∷◌, count_by, filter, length, slice_index, slice_set}
 use Rattle.std.specs.List.{flat_map, list_all, list_any}
 use Rattle.cg_moves.specs.declared.player.Player.{Player}
 use Rattle.cg_moves.specs.declared.player.Player.TheVariants.{Left, Right}

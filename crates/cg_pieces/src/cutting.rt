@@ -63,8 +63,8 @@ pub fn pieces_into<N: NeighbourRules>(
     Ok(())
 }
 
-/// The pieces of the board: for each joined set of cells that form pieces in which some player has a move, the board of the
-/// rows and columns that bound it, with all other cells blank. They stand in the order of their first cells.
+/// The pieces of the board: for each joined set of cells that form pieces in which some player has a move, the board of
+/// the rows and columns that bound it, with all other cells blank. They stand in the order of their first cells.
 pub fn pieces<N: NeighbourRules>(
     alloc: Global,
     rules: &N,

@@ -3,7 +3,8 @@ ghost use Rattle.std.specs.Prelude.{◌≡◌, ◌↔◌, ℕ, ◌<◌, ◌%◌,
 ghost use Rattle.std.specs.Int.{bit_at};
 ghost use Rattle.cg_moves.specs.Words.{Marks};
 ghost use Rattle.cg_pieces.specs.Neighbours.{is_piece_cell};
-ghost use Rattle.cg_pieces.specs.Words.{IsFieldOf, IsField, IsNextBy, IsNextSet, IsWithin, JoinedIn, is_in_column, is_in_row};
+ghost use Rattle.cg_pieces.specs.Words.{IsFieldOf, IsField, IsNextBy, IsNextSet};
+ghost use Rattle.cg_pieces.specs.Words.{IsWithin, JoinedIn, is_in_column, is_in_row};
 
 use crate::NeighbourRules;
 use cg_moves::Board;
@@ -42,7 +43,8 @@ pub(crate) fn field_of<N: NeighbourRules>(
 }
 
 impl Field {
-    /// The set with the cells that form pieces and are above or below one of it. Where a row has all 64 cells, there are none.
+    /// The set with the cells that form pieces and are above or below one of it. Where a row has all 64 cells, there
+    /// are none.
     #[inline(always)]
     fn with_column(self, set: u64) -> u64
         requires field { IsField self }
@@ -67,7 +69,8 @@ impl Field {
         (set | (on & !self.first_column | back)) & self.cells
     }
 
-    /// The set with the cells that form pieces and are adjacent to one of it, and those that are next to these in a row.
+    /// The set with the cells that form pieces and are adjacent to one of it, and those that are next to these in a
+    /// row.
     #[inline(always)]
     fn with_next(self, set: u64) -> u64
         requires field { IsField self }

@@ -6,9 +6,10 @@ ghost use Rattle.cg_pieces.specs.Moving.{AreMoving, IsIndex};
 
 use cg_moves::Board;
 
-/// The rules of a game in which a move changes two orthogonally adjacent cells that form pieces, by what contracts see of
-/// them: the symbols of the cells that form pieces, the symbol of the other cells of a piece, and which moves are allowed.
-/// Of a board of the game they give the cells that form pieces and those with moves, in words of one bit a cell.
+/// The rules of a game in which a move changes two orthogonally adjacent cells that form pieces, by what contracts see
+/// of them: the symbols of the cells that form pieces, the symbol of the other cells of a piece, and which moves are
+/// allowed. Of a board of the game they give the cells that form pieces and those with moves, in words of one bit a
+/// cell.
 ///
 /// Their law: cells with the symbol of the other cells form no pieces.
 pub trait NeighbourRules {
@@ -23,8 +24,8 @@ pub trait NeighbourRules {
         requires { board.now.symbols ≡ (neighbours self.now).symbols }
         ensures { Marks result (is_piece_cell (neighbours self.now) board.now) };
 
-    /// The cells with which some player has a move together with the cell below or the next one in the row, whichever of the
-    /// two is the first of the move. The cells that form pieces and those of the first column are known.
+    /// The cells with which some player has a move together with the cell below or the next one in the row, whichever
+    /// of the two is the first of the move. The cells that form pieces and those of the first column are known.
     fn moving_cells(&self, board: &Board, cells: u64, first_column: u64) -> u64
         requires symbols { board.now.symbols ≡ (neighbours self.now).symbols }
         requires cells { Marks cells (is_piece_cell (neighbours self.now) board.now) }

@@ -22,7 +22,11 @@ module _ {A : Type 0} where
   numbers_append (x ∷ xs) ys = ap (λ ns. x.0 ∷ ns) (numbers_append xs ys)
 
 -- what was known before a draw that gave a ticket is known after it
-pub drawn_knows : {X : Type 0} (n spare : ℕ) (v w : ViewOf X) → w ≡ record v { spare = spare; tickets = v.tickets ++ n ∷ []; made = w.made } → Grows (knows v) (knows w)
+pub drawn_knows : {X : Type 0} (n spare : ℕ) (v w : ViewOf X) → w ≡ record v {
+  spare = spare;
+  tickets = v.tickets ++ n ∷ [];
+  made = w.made;
+} → Grows (knows v) (knows w)
 drawn_knows {X} n spare v w drew i t e = subst (λ (u : ViewOf X). knows u i ≡ Rattle.std.proofs.Common.Some t) (sym drew) e
 
 module _ {X A : Type 0} (good : ℕ → A → map.FinMap nat_cmp X → Type 0) (order : List ℕ) (cells : CellsOf) where
@@ -48,7 +52,8 @@ module _ {X A : Type 0} (good : ℕ → A → map.FinMap nat_cmp X → Type 0) (
 
   -- a draw that gave a ticket
   module _ (passes n spare : ℕ) (all all' : List (ℕ × A)) (a : A) (p q r : PassOf X) (U : IsUnderWay good order cells passes all p)
-      (drew : q.sees ≡ record p.sees { spare = spare; tickets = p.sees.tickets ++ n ∷ []; made = q.sees.made }) (N : HasAnswered good cells (line_at order n) q a r) (pushed : all' ≡ all
+      (drew : q.sees ≡ record p.sees { spare = spare; tickets = p.sees.tickets ++ n ∷ []; made = q.sees.made }) (N : HasAnswered good cells (line_at order n) q
+      a r) (pushed : all' ≡ all
       ++ (line_at order n, a) ∷ []) where
     grown : Grows (knows p.sees) (knows r.sees)
     grown i t e = N.known i t (drawn_knows n spare p.sees q.sees drew i t e)
@@ -92,6 +97,7 @@ module _ {X A : Type 0} (good : ℕ → A → map.FinMap nat_cmp X → Type 0) (
   }
 
 -- the passes of a pass and of one that was split off it
-pub split_passes : {X : Type 0} (workers : ℕ) (v a b : ViewOf X) → workers ≡ v.heirs + 1 → 1 < workers → a ≡ after_split (workers - 2) (makes (a_split (workers - 2) ∷ []) v) → b ≡
+pub split_passes : {X : Type 0} (workers : ℕ) (v a b : ViewOf X) → workers ≡ v.heirs + 1 → 1 < workers → a ≡ after_split (workers - 2)
+    (makes (a_split (workers - 2) ∷ []) v) → b ≡
     split_off (workers - 2) v → passes_of a + passes_of b ≡ passes_of v
 split_passes workers v a b is more p q = let e = ap passes_of p in let f = ap passes_of q in omega arith

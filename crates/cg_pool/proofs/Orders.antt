@@ -129,7 +129,8 @@ range_next n =
 pub sorted_order : (count : ℕ) (lines order : List ℕ) → lines ≡ range_with_len 0 count → IsPermutation lines order → IsOrder count order
 sorted_order count lines order e P = record {
   long = length_permutation lines order P ∙ ap length e ∙ length-range_with_len 0 count;
-  once = λ n. ap (times n) (sym (map_same order)) ∙ times_permuted (λ k. k) n lines order P ∙ ap (times n) (map_same lines ∙ e) ∙ each_once 0 count n ∙ from_none n;
+  once = λ n. ap (times n) (sym (map_same order)) ∙ times_permuted (λ k. k) n lines order P ∙ ap (times n) (map_same lines ∙ e) ∙ each_once 0 count n
+      ∙ from_none n;
 }
   where
     from_none : (n : ℕ) → ◌≡◌ {A = ℕ} (if nat_lt n 0 then 0 else (if nat_lt n (0 + count) then 1 else 0)) (if nat_lt n count then 1 else 0)

@@ -20,8 +20,8 @@ pub struct Evaluated<F: Facts, A: Drop> {
     pub pass: Pass<F>,
 }
 
-/// Answers the lines of a job that have these weights, each on so many cells of one new table, by so many workers. Lines
-/// of greater weight are begun first. Which worker takes which line is left open.
+/// Answers the lines of a job that have these weights, each on so many cells of one new table, by so many workers.
+/// Lines of greater weight are begun first. Which worker takes which line is left open.
 pub fn evaluate<R: Threads + Sync, F: Facts + Sync, J: Job<F>, G: Gate>(
     rt: &R,
     alloc: Global,

@@ -6,7 +6,8 @@ use Rattle.cg_query.specs.declared.expr.Exprs.{Exprs}
 use Rattle.cg_query.specs.declared.expr.Term.{Term}
 use Rattle.cg_query.specs.declared.expr.Terms.{Terms}
 use Rattle.cg_query.specs.declared.expr.Expr.TheVariants as expr
-use Rattle.cg_query.specs.Tree.{Tree, Trees, Terms as TermTrees, sides, negative, multiple, sum, no_trees, with_tree, no_terms, with_term, trees_from, terms_from}
+use Rattle.cg_query.specs.Tree.{Tree, Trees, Terms as TermTrees, sides, negative, multiple, sum}
+use Rattle.cg_query.specs.Tree.{no_trees, with_tree, no_terms, with_term, trees_from, terms_from}
 use Rattle.cg_query.specs.Trees.{tree_of, trees_in, trees_of, term_of, terms_in, terms_of}
 use Rattle.cg_query.proofs.TreeOf.{braces_tree, negative_tree, multiple_tree, sum_tree}
 

@@ -1,6 +1,7 @@
 -- How high trees are, and what is said of each tree of a question.
 use Rattle.std.specs.Prelude.{ℕ, suc, max}
-use Rattle.cg_query.specs.Tree.{Tree, Trees, Terms, Question, sides, negative, multiple, sum, no_trees, with_tree, no_terms, with_term, value, compare, outcome, stops, mean, temp, thermo, proof, check}
+use Rattle.cg_query.specs.Tree.{Tree, Trees, Terms, Question, sides, negative, multiple, sum, no_trees, with_tree}
+use Rattle.cg_query.specs.Tree.{no_terms, with_term, value, compare, outcome, stops, mean, temp, thermo, proof, check}
 
 abbrev mutual
   -- the most nodes on one path of the tree

@@ -1,6 +1,7 @@
 -- What expressions and queries of the code stand for.
 use Rattle.std.specs.Prelude.{List, map, Bool}
-use Rattle.cg_query.specs.Tree.{Tree, Question, Statement, asks, defines, number, ups, nimber, switch, tiny, braces, negative, multiple, sum, game, octal, used, terms_from, value, compare, outcome, stops, mean, temp, thermo, proof, check}
+use Rattle.cg_query.specs.Tree.{Tree, Question, Statement, asks, defines, number, ups, nimber, switch, tiny, braces, negative, multiple}
+use Rattle.cg_query.specs.Tree.{sum, game, octal, used, terms_from, value, compare, outcome, stops, mean, temp, thermo, proof, check}
 use Rattle.cg_query.specs.declared.expr.Expr.{Expr}
 use Rattle.cg_query.specs.declared.expr.Exprs.{Exprs}
 use Rattle.cg_query.specs.declared.expr.Term.{Term}

@@ -14,12 +14,20 @@ few_short c zero end [] u = refl
 few_short c (suc room) end [] u = refl
 few_short c zero end (b ∷ bytes) u = chosen (has c b) u
   where
-    chosen : (t : Bool) → length (cond t (b ∷ taken c bytes) []) ≤ 0 → cond {A = Read (List ℕ)} t (Err (length (b ∷ bytes))) (Ok ([], b ∷ bytes)) ≡ Ok (cond t (b ∷ taken c bytes) [], cond t (skipped c bytes) (b ∷ bytes))
+    chosen : (t : Bool) → length (cond t (b ∷ taken c bytes) []) ≤ 0 → cond {A = Read (List ℕ)} t (Err (length (b ∷ bytes))) (Ok ([], b ∷ bytes))
+        ≡ Ok (cond t (b ∷ taken c bytes) [], cond t (skipped c bytes) (b ∷ bytes))
     chosen true u = absurd (omega arith)
     chosen false u = refl
 few_short c (suc room) end (b ∷ bytes) u = chosen (has c b) u (few_short c room end bytes)
   where
-    chosen : (t : Bool) → length (cond t (b ∷ taken c bytes) []) ≤ suc room → (length (taken c bytes) ≤ room → few_at c room end bytes ≡ Ok (taken c bytes, skipped c bytes)) → cond t (pushed b (few_at c room end bytes)) (Ok ([], b ∷ bytes)) ≡ Ok (cond t (b ∷ taken c bytes) [], cond t (skipped c bytes) (b ∷ bytes))
+    chosen : (t : Bool) → length (cond t (b ∷ taken c bytes) []) ≤ suc room → (length (taken c bytes) ≤ room → few_at c room end bytes ≡ Ok (
+      taken c bytes,
+      skipped c bytes,
+    )) → cond t (pushed b (few_at c room end bytes)) (Ok ([], b ∷ bytes)) ≡ Ok (
+      cond t (b ∷ taken c bytes) [],
+      cond t (skipped c bytes)
+          (b ∷ bytes),
+    )
     chosen true u more = ap (pushed b) (more (omega arith))
     chosen false u more = refl
 
@@ -31,7 +39,8 @@ few_long c zero end (b ∷ bytes) u = chosen (has c b) u
     size : length (b ∷ bytes) ≡ length (b ∷ bytes) - 0
     size = omega arith
 
-    chosen : (t : Bool) → 0 < length (cond t (b ∷ taken c bytes) []) → cond {A = Read (List ℕ)} t (Err (length (b ∷ bytes))) (Ok ([], b ∷ bytes)) ≡ Err (length (b ∷ bytes) - 0)
+    chosen : (t : Bool) → 0 < length (cond t (b ∷ taken c bytes) []) → cond {A = Read (List ℕ)} t (Err (length (b ∷ bytes))) (Ok ([], b ∷ bytes))
+        ≡ Err (length (b ∷ bytes) - 0)
     chosen true u = ap (λ (n : ℕ). Err n) size
     chosen false u = absurd (omega arith)
 few_long c (suc room) end (b ∷ bytes) u = chosen (has c b) u (few_long c room end bytes)
@@ -39,7 +48,8 @@ few_long c (suc room) end (b ∷ bytes) u = chosen (has c b) u (few_long c room 
     size : length bytes - room ≡ length (b ∷ bytes) - suc room
     size = omega arith
 
-    chosen : (t : Bool) → suc room < length (cond t (b ∷ taken c bytes) []) → (room < length (taken c bytes) → few_at c room end bytes ≡ Err (length bytes - room)) → cond t (pushed b (few_at c room end bytes)) (Ok ([], b ∷ bytes)) ≡ Err (length (b ∷ bytes) - suc room)
+    chosen : (t : Bool) → suc room < length (cond t (b ∷ taken c bytes) []) → (room < length (taken c bytes) → few_at c room end bytes
+        ≡ Err (length bytes - room)) → cond t (pushed b (few_at c room end bytes)) (Ok ([], b ∷ bytes)) ≡ Err (length (b ∷ bytes) - suc room)
     chosen true u more = ap (pushed b) (more (omega arith)) ∙ ap (λ (n : ℕ). Err n) size
     chosen false u more = absurd (omega arith)
 
@@ -57,7 +67,8 @@ unfolding bars_at
 bars_none end [] h = refl
 bars_none end (b ∷ bytes) h = chosen (has bar b) (omega (arith, h, taken_length bar (b ∷ bytes)))
   where
-    chosen : (t : Bool) → length (cond t (b ∷ taken bar bytes) []) ≡ 0 → placed end (length (b ∷ bytes)) (cond t (pushed b (few_at bar 7 end bytes)) (Err (length (b ∷ bytes)))) ≡ Err (length (b ∷ bytes))
+    chosen : (t : Bool) → length (cond t (b ∷ taken bar bytes) []) ≡ 0 → placed end (length (b ∷ bytes)) (cond t (pushed b (few_at bar 7 end bytes))
+        (Err (length (b ∷ bytes)))) ≡ Err (length (b ∷ bytes))
     chosen true h = absurd (omega arith)
     chosen false h = refl
 
@@ -69,15 +80,22 @@ bars_many end (b ∷ bytes) h = chosen (has bar b) (omega (arith, h, taken_lengt
     size : length bytes - 7 ≡ length (b ∷ bytes) - 8
     size = omega arith
 
-    chosen : (t : Bool) → 8 < length (cond t (b ∷ taken bar bytes) []) → placed end (length (b ∷ bytes)) (cond t (pushed b (few_at bar 7 end bytes)) (Err (length (b ∷ bytes)))) ≡ Err (length (b ∷ bytes) - 8)
+    chosen : (t : Bool) → 8 < length (cond t (b ∷ taken bar bytes) []) → placed end (length (b ∷ bytes)) (cond t (pushed b (few_at bar 7 end bytes))
+        (Err (length (b ∷ bytes)))) ≡ Err (length (b ∷ bytes) - 8)
     chosen true h = ap (λ z. placed end (length (b ∷ bytes)) (pushed b z)) (few_long bar 7 end bytes (omega arith)) ∙ ap (λ (n : ℕ). Err n) size
     chosen false h = absurd (omega arith)
 
-pub bars_few : (end : ℕ) (bytes : List ℕ) → 0 < length bytes - length (skipped bar bytes) → length bytes - length (skipped bar bytes) ≤ 8 → bars_at end bytes ≡ Ok ((end - length bytes, length bytes - length (skipped bar bytes)), skipped bar bytes)
+pub bars_few : (end : ℕ) (bytes : List ℕ) → 0 < length bytes - length (skipped bar bytes) → length bytes - length (skipped bar bytes) ≤ 8 → bars_at end bytes
+    ≡ Ok ((end - length bytes, length bytes - length (skipped bar bytes)), skipped bar bytes)
 unfolding bars_at
 bars_few end [] h u = absurd (omega arith)
-bars_few end (b ∷ bytes) h u = chosen (has bar b) (omega (arith, h, taken_length bar (b ∷ bytes))) (omega (arith, u, taken_length bar (b ∷ bytes))) ∙ ap (λ (n : ℕ). Ok ((end - length (b ∷ bytes), n), skipped bar (b ∷ bytes))) (omega (arith, taken_length bar (b ∷ bytes)))
+bars_few end (b ∷ bytes) h u = chosen (has bar b) (omega (arith, h, taken_length bar (b ∷ bytes))) (omega (arith, u, taken_length bar (b ∷ bytes)))
+    ∙ ap (λ (n : ℕ). Ok ((end - length (b ∷ bytes), n), skipped bar (b ∷ bytes))) (omega (arith, taken_length bar (b ∷ bytes)))
   where
-    chosen : (t : Bool) → 0 < length (cond t (b ∷ taken bar bytes) []) → length (cond t (b ∷ taken bar bytes) []) ≤ 8 → placed end (length (b ∷ bytes)) (cond t (pushed b (few_at bar 7 end bytes)) (Err (length (b ∷ bytes)))) ≡ Ok ((end - length (b ∷ bytes), length (cond t (b ∷ taken bar bytes) [])), cond t (skipped bar bytes) (b ∷ bytes))
+    chosen : (t : Bool) → 0 < length (cond t (b ∷ taken bar bytes) []) → length (cond t (b ∷ taken bar bytes) []) ≤ 8 → placed end (length (b ∷ bytes))
+        (cond t (pushed b (few_at bar 7 end bytes)) (Err (length (b ∷ bytes)))) ≡ Ok (
+          (end - length (b ∷ bytes), length (cond t (b ∷ taken bar bytes) [])),
+          cond t (skipped bar bytes) (b ∷ bytes),
+        )
     chosen true h u = ap (λ z. placed end (length (b ∷ bytes)) (pushed b z)) (few_short bar 7 end bytes (omega arith))
     chosen false h u = absurd (omega arith)

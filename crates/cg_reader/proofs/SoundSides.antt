@@ -19,7 +19,10 @@ pub sound_fault : (es : List Expr) → None ≡ side_fault (map sound es)
 sound_fault [] = refl
 sound_fault (e ∷ es) = sound_fault es
 
-pub sound_push : (fs : List code.Found) (es : List Expr) (e : Expr) → map found_of fs ≡ map sound es → map found_of (fs ++ record { expr = e; fault = None } ∷ []) ≡ map sound (es ++ e ∷ [])
+pub sound_push : (fs : List code.Found) (es : List Expr) (e : Expr) → map found_of fs ≡ map sound es → map found_of (fs ++ record {
+  expr = e;
+  fault = None;
+} ∷ []) ≡ map sound (es ++ e ∷ [])
 sound_push fs es e h = map_push _ fs (record { expr = e; fault = None }) ∙ ap (λ (z : List Found). z ++ sound e ∷ []) h ∙ sym (map_push _ es e)
 
 -- ---- the trees of what was found
@@ -29,5 +32,6 @@ side_push [] f = refl
 side_push (g ∷ fs) f = ap (λ (z : List Tree). tree_of g.expr ∷ z) (side_push fs f)
 
 -- one expression more
-pub exprs_push : (es : List Expr) (fs : List code.Found) (f : code.Found) → map tree_of es ≡ side_trees (map found_of fs) → map tree_of (es ++ f.expr ∷ []) ≡ side_trees (map found_of (fs ++ f ∷ []))
+pub exprs_push : (es : List Expr) (fs : List code.Found) (f : code.Found) → map tree_of es ≡ side_trees (map found_of fs) → map tree_of (es ++ f.expr ∷ [])
+    ≡ side_trees (map found_of (fs ++ f ∷ []))
 exprs_push es fs f h = map_push _ es f.expr ∙ ap (λ (z : List Tree). z ++ tree_of f.expr ∷ []) h ∙ sym (side_push fs f)

@@ -18,13 +18,15 @@ use Rattle.cg_grammar.proofs.Whole.{stated_as, not_blank, not_comment, blank_no_
 use Rattle.cg_reader.specs.Answered.{IsFaultless}
 
 module _ (format : Format) (text : List ℕ) where
-  pub stated_read : (s : Statement) (o : Option ℕ) (r : Result code_statement.Statement SyntaxFault) → read_at format text ≡ Ok (stated_as s o) → IsFaultless s o r → IfOk r (λ t. ReadsIn format text (statement_of t))
+  pub stated_read : (s : Statement) (o : Option ℕ) (r : Result code_statement.Statement SyntaxFault) → read_at format text ≡ Ok (stated_as s o) → IsFaultless s
+      o r → IfOk r (λ t. ReadsIn format text (statement_of t))
   stated_read s None (Ok t) h a = subst (λ (p : Statement). ReadsIn format text p) (sym a) (read_is format text s h)
   stated_read s None (Err e) h a = absurd a
   stated_read s (Some c) (Ok t) h a = absurd a
   stated_read s (Some c) (Err e) h a = tt
 
-  pub stated_refused : (s : Statement) (o : Option ℕ) (r : Result code_statement.Statement SyntaxFault) → read_at format text ≡ Ok (stated_as s o) → IsFaultless s o r → IfErr r (StatesNothing format text)
+  pub stated_refused : (s : Statement) (o : Option ℕ) (r : Result code_statement.Statement SyntaxFault) → read_at format text ≡ Ok (stated_as s o) →
+      IsFaultless s o r → IfErr r (StatesNothing format text)
   stated_refused s None (Ok t) h a = tt
   stated_refused s None (Err e) h a = absurd a
   stated_refused s (Some c) (Ok t) h a = tt
@@ -50,10 +52,12 @@ blank_is_no_comment : outcome lines.Blank ≡ outcome lines.Comment → ⊥
 blank_is_no_comment e = cc
 
 module _ (text : List ℕ) where
-  pub neither_blank : (b : ℕ) (rest : List ℕ) (r : Result Line SyntaxFault) → skipped blank text ≡ b ∷ rest → IsNeither r → (r ≡ Ok lines.Blank) ↔ (is_blank_line text ≡ true)
+  pub neither_blank : (b : ℕ) (rest : List ℕ) (r : Result Line SyntaxFault) → skipped blank text ≡ b ∷ rest → IsNeither r → (r ≡ Ok lines.Blank) ↔
+      (is_blank_line text ≡ true)
   neither_blank b rest r e n = (λ h. absurd (subst IsNeither h n), λ h. absurd (false_not_true (is_blank_line text) (not_blank text b rest e) h))
 
-  pub neither_comment : (b : ℕ) (rest : List ℕ) (r : Result Line SyntaxFault) → skipped blank text ≡ b ∷ rest → b ≢ 35 → IsNeither r → (r ≡ Ok lines.Comment) ↔ IsComment text
+  pub neither_comment : (b : ℕ) (rest : List ℕ) (r : Result Line SyntaxFault) → skipped blank text ≡ b ∷ rest → b ≢ 35 → IsNeither r → (r ≡ Ok lines.Comment) ↔
+      IsComment text
   neither_comment b rest r e other n = (λ h. absurd (subst IsNeither h n), λ is. absurd (not_comment text b rest e other is))
 
   pub blank_comment : skipped blank text ≡ [] → (outcome lines.Blank ≡ Ok lines.Comment) ↔ IsComment text
@@ -64,4 +68,9 @@ module _ (text : List ℕ) where
 
   pub line_refused : (b : ℕ) (rest : List ℕ) (f : SyntaxFault) → skipped blank text ≡ b ∷ rest → b ≢ 35 → StatesNothing formats.One text f → IsRefused text f
   line_refused b rest faults.Memory e other n = tt
-  line_refused b rest (faults.Syntax column) e other n = record { not_blank = not_blank text b rest e; not_comment = not_comment text b rest e other; no_question = λ q. n.0 (asks q); at = n.1 }
+  line_refused b rest (faults.Syntax column) e other n = record {
+    not_blank = not_blank text b rest e;
+    not_comment = not_comment text b rest e other;
+    no_question = λ q. n.0 (asks q);
+    at = n.1;
+  }

@@ -40,11 +40,11 @@ pub fn read_line(alloc: Global, line: &[u8]) -> Result<Line, SyntaxFault>
 
 /// What a line of format 2 states, which is given without its LF.
 ///
-/// It comes with the one question or definition that the grammar of format 2 relates to the line. `Syntax` comes exactly
-/// where the line states nothing, as blanks and comments do, with its column: 1 plus the length of the longest prefix
-/// that some line of the grammar has, too. Where only the rule on runs of bars is broken, it is the column of the first
-/// run that has the length of an earlier run of its brace with no longer run between them. Only `Memory` may come in
-/// place of them.
+/// It comes with the one question or definition that the grammar of format 2 relates to the line. `Syntax` comes
+/// exactly where the line states nothing, as blanks and comments do, with its column: 1 plus the length of the longest
+/// prefix that some line of the grammar has, too. Where only the rule on runs of bars is broken, it is the column of
+/// the first run that has the length of an earlier run of its brace with no longer run between them. Only `Memory` may
+/// come in place of them.
 pub fn read_statement(alloc: Global, line: &[u8]) -> Result<Statement, SyntaxFault>
     ensures read { IfOk result (λ s. ReadsIn formats.Two line.now (statement_of s)) }
     ensures refused { IfErr result (StatesNothing formats.Two line.now) }

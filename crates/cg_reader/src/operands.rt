@@ -3,8 +3,10 @@
 ghost use Rattle.std.specs.Prelude.{◌≡◌, ◌<◌, ◌≤◌, length, IfOk, ℕ};
 ghost use Rattle.cg_reading.specs.Bytes.{has};
 ghost use Rattle.cg_reading.specs.Gives.{Gives};
-ghost use Rattle.cg_grammar.specs.Reading.{special_at, bare_special_at, plain_primary_at, times_at, counted_multiple_at};
-ghost use Rattle.cg_grammar.specs.Reading.{plain_counted_term_at, ups_term_at, special_term_at, uncounted_term_at, bracket_at};
+ghost use Rattle.cg_grammar.specs.Reading.{special_at, bare_special_at, plain_primary_at};
+ghost use Rattle.cg_grammar.specs.Reading.{times_at, counted_multiple_at};
+ghost use Rattle.cg_grammar.specs.Reading.{plain_counted_term_at, ups_term_at};
+ghost use Rattle.cg_grammar.specs.Reading.{special_term_at, uncounted_term_at, bracket_at};
 ghost use Rattle.cg_grammar.specs.Reading.{plain_begin, uncounted_begin, term_begin, sum_at, paren_at};
 ghost use Rattle.cg_reader.specs.Views.{found_of};
 

@@ -1,5 +1,6 @@
 -- Tokens that are as long as possible.
-use Rattle.std.proofs.Common.{◌≡◌, ℕ, ◌+◌, ◌-◌, inl, inr, Bool, true, false, ◌&&◌, cond, List, [], ◌∷◌, ◌++◌, length, Ok, Err, refl, ap, sym, subst, ◌∙◌, append_assoc, append-nil, arith, length-append}
+use Rattle.std.proofs.Common.{◌≡◌, ℕ, ◌+◌, ◌-◌, inl, inr, Bool, true, false, ◌&&◌, cond, List, [], ◌∷◌, ◌++◌, length}
+use Rattle.std.proofs.Common.{Ok, Err, refl, ap, sym, subst, ◌∙◌, append_assoc, append-nil, arith, length-append}
 use Rattle.cg_reading.specs.Bytes.{Class, has, Ends, Begins}
 use Rattle.cg_reading.specs.Pieces.{Piece, Then, Or, Made, Nothing, Bytes, Placed, Longest}
 use Rattle.cg_reading.specs.Readers.{Read, Reader, ◌>>=◌, then_at, or_at, made_at, nothing_at, placed_at, taken, skipped, bytes_at}

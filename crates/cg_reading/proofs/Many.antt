@@ -1,9 +1,11 @@
 -- Any number of pieces, one after the other.
-use Rattle.std.proofs.Common.{◌≡◌, ℕ, zero, suc, ◌+◌, ◌-◌, ◌<◌, ◌≤◌, Bool, true, false, cond, List, [], ◌∷◌, ◌++◌, length, Ok, Err, refl, ap, sym, subst, ◌∙◌, append_assoc, append-nil, arith, length-append}
+use Rattle.std.proofs.Common.{◌≡◌, ℕ, zero, suc, ◌+◌, ◌-◌, ◌<◌, ◌≤◌, Bool, true, false, cond, List, [], ◌∷◌, ◌++◌, length}
+use Rattle.std.proofs.Common.{Ok, Err, refl, ap, sym, subst, ◌∙◌, append_assoc, append-nil, arith, length-append}
 use Rattle.cg_reading.specs.Bytes.{Class, has, Ends, Begins}
 use Rattle.cg_reading.specs.Pieces.{Piece, Many}
 use Rattle.cg_reading.specs.Readers.{Read, Reader, ◌>>=◌, many_from, many_at}
-use Rattle.cg_reading.proofs.Laws.{kept, Agree, Alive, Lawful, Outcome, Reads, Takes, at_ok, behind, bind_agree, bind_sound, left, left_made, made_agree, outcome_left}
+use Rattle.cg_reading.proofs.Laws.{kept, Agree, Alive, Lawful, Outcome, Reads, Takes, at_ok, behind}
+use Rattle.cg_reading.proofs.Laws.{bind_agree, bind_sound, left, left_made, made_agree, outcome_left}
 use Rattle.cg_reading.proofs.Sets.{apart, next_ends, no_right}
 
 -- ---- any number of pieces

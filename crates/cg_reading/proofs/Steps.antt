@@ -1,9 +1,11 @@
 -- One piece and then another, either of two, a function of one, and nothing.
-use Rattle.std.proofs.Common.{◌≡◌, ℕ, ◌+◌, ◌≤◌, ◌⊎◌, inl, inr, Bool, true, false, ◌&&◌, cond, List, [], ◌∷◌, ◌++◌, length, Ok, Err, refl, ap, sym, subst, ◌∙◌, append_assoc, arith, length-append}
+use Rattle.std.proofs.Common.{◌≡◌, ℕ, ◌+◌, ◌≤◌, ◌⊎◌, inl, inr, Bool, true, false, ◌&&◌, cond, List, [], ◌∷◌, ◌++◌}
+use Rattle.std.proofs.Common.{length, Ok, Err, refl, ap, sym, subst, ◌∙◌, append_assoc, arith, length-append}
 use Rattle.cg_reading.specs.Bytes.{Class, has, Ends, Begins}
 use Rattle.cg_reading.specs.Pieces.{Piece, Then, Or, Made, Nothing}
 use Rattle.cg_reading.specs.Readers.{Read, Reader, ◌>>=◌, then_at, or_at, made_at, nothing_at}
-use Rattle.cg_reading.proofs.Laws.{kept, Agree, Alive, Lawful, Outcome, Reads, Some_text, Takes, at_ok, behind, bind_agree, bind_sound, left, left_made, made_agree, made_sound, outcome_left}
+use Rattle.cg_reading.proofs.Laws.{kept, Agree, Alive, Lawful, Outcome, Reads, Some_text, Takes, at_ok, behind}
+use Rattle.cg_reading.proofs.Laws.{bind_agree, bind_sound, left, left_made, made_agree, made_sound, outcome_left}
 use Rattle.cg_reading.proofs.Sets.{apart, apart_has, both_begin, ends_left, ends_right, has_left, has_right, last_ends, next_ends}
 
 -- ---- one piece and then another

@@ -1,9 +1,11 @@
 -- A piece with a test of its value, and a piece whose value tells the one behind it.
-use Rattle.std.proofs.Common.{◌≡◌, ℕ, ◌+◌, ◌≤◌, Bool, true, false, cond, List, ◌∷◌, ◌++◌, length, Ok, Err, refl, ap, sym, subst, ◌∙◌, append_assoc, arith, length-append}
+use Rattle.std.proofs.Common.{◌≡◌, ℕ, ◌+◌, ◌≤◌, Bool, true, false, cond, List, ◌∷◌, ◌++◌, length, Ok}
+use Rattle.std.proofs.Common.{Err, refl, ap, sym, subst, ◌∙◌, append_assoc, arith, length-append}
 use Rattle.cg_reading.specs.Bytes.{Class, Ends, Begins}
 use Rattle.cg_reading.specs.Pieces.{Piece, Such, Telling}
 use Rattle.cg_reading.specs.Readers.{Read, Reader, ◌>>=◌, such_at, telling_at}
-use Rattle.cg_reading.proofs.Laws.{kept, stuck, past, Agree, Alive, Lawful, Outcome, Some_text, Takes, at_ok, behind, bind_agree, bind_sound, left, outcome_left}
+use Rattle.cg_reading.proofs.Laws.{kept, stuck, past, Agree, Alive, Lawful, Outcome, Some_text, Takes}
+use Rattle.cg_reading.proofs.Laws.{at_ok, behind, bind_agree, bind_sound, left, outcome_left}
 use Rattle.cg_reading.proofs.Longest.{Full, Token}
 use Rattle.cg_reading.proofs.Sets.{apart, both_begin, next_ends}
 

@@ -1,9 +1,11 @@
 -- Pieces of one kind and then pieces of another are read, piece by piece.
-use Rattle.std.proofs.Common.{◌≡◌, ℕ, zero, suc, ◌+◌, ◌-◌, ◌<◌, ◌≤◌, ◌⊎◌, inl, inr, Bool, true, false, cond, List, [], ◌∷◌, ◌++◌, length, Ok, Err, refl, ap, sym, subst, ◌∙◌, append_assoc, append-nil, arith, length-append}
+use Rattle.std.proofs.Common.{◌≡◌, ℕ, zero, suc, ◌+◌, ◌-◌, ◌<◌, ◌≤◌, ◌⊎◌, inl, inr, Bool, true, false, cond, List, [], ◌∷◌, ◌++◌}
+use Rattle.std.proofs.Common.{length, Ok, Err, refl, ap, sym, subst, ◌∙◌, append_assoc, append-nil, arith, length-append}
 use Rattle.cg_reading.specs.Bytes.{Class, has, Ends, Begins}
 use Rattle.cg_reading.specs.Pieces.{Piece, Split, Then, Many}
 use Rattle.cg_reading.specs.Readers.{Read, Reader, ◌>>=◌}
-use Rattle.cg_reading.proofs.Laws.{kept, Agree, Alive, Lawful, Outcome, Reads, Takes, at_ok, behind, bind_agree, bind_sound, left, left_made, made_agree, outcome_left}
+use Rattle.cg_reading.proofs.Laws.{kept, Agree, Alive, Lawful, Outcome, Reads, Takes, at_ok, behind}
+use Rattle.cg_reading.proofs.Laws.{bind_agree, bind_sound, left, left_made, made_agree, outcome_left}
 use Rattle.cg_reading.proofs.Sets.{apart, next_ends, no_right}
 use Rattle.cg_reading.proofs.Many.{some_length}
 use Rattle.cg_reading.specs.Turns.{Either, by_kind, one_first, one_second, turns_from, turns_at}

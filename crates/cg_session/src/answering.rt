@@ -35,8 +35,8 @@ pub struct Answers {
     pub kept: Option<Kept>,
 }
 
-/// Answers a whole session that has few enough bytes, with the output that is to be written, unless it has too many answered
-/// lines. It fails only for want of memory.
+/// Answers a whole session that has few enough bytes, with the output that is to be written, unless it has too many
+/// answered lines. It fails only for want of memory.
 pub fn answer_session<R: Threads + Sync, G: Gate>(
     rt: &R,
     alloc: Global,

@@ -1,5 +1,6 @@
 -- Each step on the words is a step of the table's list of steps, and tells what its play says.
-use Rattle.std.proofs.Common.{◌≡◌, ◌≢◌, ℕ, zero, suc, ◌+◌, ◌%◌, ◌^◌, ◌<◌, [], ◌∷◌, ◌++◌, set, eqb, true, false, None, Some, IsSome, refl, sym, ap, ◌∙◌, subst, inl, inr, ⊎_elim, arith, mod-eq_of_lt}
+use Rattle.std.proofs.Common.{◌≡◌, ◌≢◌, ℕ, zero, suc, ◌+◌, ◌%◌, ◌^◌, ◌<◌, [], ◌∷◌, ◌++◌, set, eqb, true, false, None}
+use Rattle.std.proofs.Common.{Some, IsSome, refl, sym, ap, ◌∙◌, subst, inl, inr, ⊎_elim, arith, mod-eq_of_lt}
 use Rattle.std.specs.Prelude.{slice_index, nat_lt, if◌then◌else◌, ◌==◌}
 use mathlib.Core.Option.{none, some}
 use mathlib.Core.Logic.{dite}
@@ -11,7 +12,8 @@ use Rattle.atomic_table.proofs.Lists.{exchanged}
 use Rattle.cg_shared.specs.declared.view.Plan.{Plan}
 use Rattle.cg_cells.specs.Meaning.{Meaning, Has, IsLawful}
 use Rattle.cg_cells.specs.Index.{place}
-use Rattle.cg_cells.specs.Views.{Sizes, ViewOf, Action, a_split, a_join, a_draw, a_look, a_read, a_probe, a_claim, a_note, makes, knows, cells_of, searched, after_draw, after_look, after_read, after_claim, after_pass, after_note, after_split, split_off, after_meet, ended}
+use Rattle.cg_cells.specs.Views.{Sizes, ViewOf, Action, a_split, a_join, a_draw, a_look, a_read, a_probe, a_claim, a_note, makes, knows, cells_of, searched}
+use Rattle.cg_cells.specs.Views.{after_draw, after_look, after_read, after_claim, after_pass, after_note, after_split, split_off, after_meet, ended}
 use Rattle.cg_cells.specs.Table.{Whole, IsLive, key_at, value_at}
 use Rattle.cg_cells.specs.Steps.{Table, Step, split, join, draw, check, look, read, probe, claim, note, Leads, Finds, IsSearching, is_close}
 use Rattle.cg_cells.specs.Sure.{Sure}

@@ -1,5 +1,6 @@
 -- What a step's view says of a pass as a store of cells.
-use Rattle.std.proofs.Common.{◌≡◌, ℕ, zero, suc, ◌+◌, ◌<◌, ◌≤◌, List, [], ◌∷◌, ◌++◌, set, length, false, Some, IsSome, refl, sym, ap, ◌∙◌, subst, inl, inr, arith}
+use Rattle.std.proofs.Common.{◌≡◌, ℕ, zero, suc, ◌+◌, ◌<◌, ◌≤◌, List, [], ◌∷◌, ◌++◌, set, length}
+use Rattle.std.proofs.Common.{false, Some, IsSome, refl, sym, ap, ◌∙◌, subst, inl, inr, arith}
 use lib.ListN.{get_elem?}
 use mathlib.Core.Option as option
 use Rattle.atomic_table.specs.Seated.{TableId}

@@ -3,7 +3,8 @@ use Rattle.std.specs.Prelude.{◌≡◌, ◌≢◌, ◌⊎◌, ℕ, suc, ◌+◌
 use Rattle.atomic_table.specs.Table.{State, Me, Step}
 use Rattle.cg_shared.specs.declared.view.Plan.{Plan}
 use Rattle.cg_cells.specs.Meaning.{Meaning, Has}
-use Rattle.cg_cells.specs.Views.{Sizes, ViewOf, a_draw, a_look, a_read, a_probe, a_claim, a_note, cells_of, knows, makes, after_draw, after_look, after_read, after_note}
+use Rattle.cg_cells.specs.Views.{Sizes, ViewOf, a_draw, a_look, a_read, a_probe, a_claim, a_note}
+use Rattle.cg_cells.specs.Views.{cells_of, knows, makes, after_draw, after_look, after_read, after_note}
 use Rattle.cg_cells.specs.Steps.{Table, IsReachable}
 use Rattle.cg_cells.specs.Sure.{Sure}
 use Rattle.cg_shared.specs.Searches.{EndsAt, GoesPast}

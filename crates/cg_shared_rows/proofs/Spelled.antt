@@ -1,5 +1,6 @@
 -- What the keys of the tests spell.
-use Rattle.std.proofs.Common.{◌≡◌, ◌≢◌, ◌<◌, ◌≤◌, ℕ, ℤ, pos, lit<, lit≤, inl, zero, suc, true, ◌==◌, Option, Some, None, IsSome, List, [], ◌∷◌, refl, sym, ap, ◌∙◌, subst, arith}
+use Rattle.std.proofs.Common.{◌≡◌, ◌≢◌, ◌<◌, ◌≤◌, ℕ, ℤ, pos, lit<, lit≤, inl, zero, suc, true, ◌==◌, Option}
+use Rattle.std.proofs.Common.{Some, None, IsSome, List, [], ◌∷◌, refl, sym, ap, ◌∙◌, subst, arith}
 use Rattle.std.proofs.lemmas.Bool.Decides.{nat_tests}
 use Rattle.cg_cells.specs.declared.key.KeyParts.TheVariants.{Number, Cons, Game}
 use Rattle.cg_cells.specs.Parts.{parts_of, names_of, named_in}

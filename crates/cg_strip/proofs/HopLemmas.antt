@@ -1,5 +1,6 @@
 -- The hops of toads and frogs, cell by cell.
-use Rattle.std.proofs.Common.{◌≡◌, refl, ℕ, zero, suc, ◌+◌, ◌<◌, ◌==◌, ◌&&◌, inl, inr, cond, List, [], ◌∷◌, ◌++◌, length, map, drop, get_or, reverse, Result, Ok, Err, ap, sym, subst, ◌∙◌, arith, append_assoc, bit_and, bit_or, max, w64, ◌≤◌, if◌then◌else◌, true, ◌-◌, ◌^◌}
+use Rattle.std.proofs.Common.{◌≡◌, refl, ℕ, zero, suc, ◌+◌, ◌<◌, ◌==◌, ◌&&◌, inl, inr, cond, List, [], ◌∷◌, ◌++◌, length, map, drop, get_or, reverse}
+use Rattle.std.proofs.Common.{Result, Ok, Err, ap, sym, subst, ◌∙◌, arith, append_assoc, bit_and, bit_or, max, w64, ◌≤◌, if◌then◌else◌, true, ◌-◌, ◌^◌}
 use Rattle.std.specs.Prelude.{Contains, IfOk, nat_eq, slice_index}
 use Rattle.std.specs.Int.{bit_at, trailing_zeros}
 use Rattle.std.specs.List.{starts_with}

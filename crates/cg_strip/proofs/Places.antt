@@ -67,7 +67,18 @@ rule_at i r text is =
     let pattern = symbols_long _ _ _ m.first.1 in
     let replacement = symbols_long _ _ _ m.second.second.1 in
     let whole : length text ≡ length t.before + (length n.before + (length m.before + (length m.second.before + length m.second.behind))) =
-    omega (arith, ap length t.spelled, length-append t.before t.behind, ap length n.spelled, length-append n.before n.behind, ap length m.spelled, length-append m.before m.behind, ap length m.second.spelled, length-append m.second.before m.second.behind) in
+    omega (
+      arith,
+      ap length t.spelled,
+      length-append t.before t.behind,
+      ap length n.spelled,
+      length-append n.before n.behind,
+      ap length m.spelled,
+      length-append
+          m.before m.behind,
+      ap length m.second.spelled,
+      length-append m.second.before m.second.behind,
+    ) in
     let same = is.same ∙ ap (λ z. s.rule_item is.made_of.0 z) n.second.same in
     let place : r.place ≡ is.made_of.0.0 = ap (λ (z : RuleItem). z.place) same in
     let pattern_place : r.pattern_place ≡ n.second.made_of.0.0 = ap (λ (z : RuleItem). z.pattern_place) same in
@@ -88,11 +99,16 @@ rules_from i [] text is = tt
 rules_from i (r ∷ rules) text is =
     let m = is.first.is in
     let e : r ≡ is.first.made_of.1 = is.first.same in
-    let a : RuleAt (i + length m.before) r (length m.behind) = subst (λ (z : RuleItem). RuleAt (i + length m.before) z (length m.behind)) (sym e) (rule_at (i + length m.before) is.first.made_of.1 m.behind m.second) in
-    let size : length is.before ≡ length m.before + length m.behind = ap length m.spelled ∙ length-append m.before m.behind in
-    (record { letter = omega (arith, a.letter); pattern = a.pattern; replacement = a.replacement }, subst (λ (j : ℕ). RulesFrom j rules) (let k : i + length is.before ≡ r.replacement_place + length r.rule.replacement = omega (arith, a.end) in k) (rules_from (i + length is.before) rules is.behind is.second))
+    let a : RuleAt (i + length m.before) r (length m.behind) = subst (λ (z : RuleItem). RuleAt (i + length m.before) z (length m.behind)) (sym e)
+    (rule_at (i + length m.before) is.first.made_of.1 m.behind m.second) in
+    let size : length is.before ≡ length m.before + length m.behind = ap length m.spelled ∙ length-append m.before m.behind in (
+      record { letter = omega (arith, a.letter); pattern = a.pattern; replacement = a.replacement },
+      subst (λ (j : ℕ). RulesFrom j rules) (let k : i + length
+          is.before ≡ r.replacement_place + length r.rule.replacement = omega (arith, a.end) in k) (rules_from (i + length is.before) rules is.behind is.second),
+    )
 
-weights_from : (i : ℕ) (weights : List WeightItem) (rules : List RuleItem) (text more : List ℕ) → Many (behind_semicolon weight) i weights text → Many (behind_semicolon rule) (i + length text) rules more → WeightsFrom i weights rules
+weights_from : (i : ℕ) (weights : List WeightItem) (rules : List RuleItem) (text more : List ℕ) → Many (behind_semicolon weight) i weights text →
+    Many (behind_semicolon rule) (i + length text) rules more → WeightsFrom i weights rules
 weights_from i [] rules text more is next = lower_rules (i + length text) i rules (omega arith) (rules_from (i + length text) rules more next)
 weights_from i (w ∷ weights) rules text more is next =
     let m = is.first.is in
@@ -100,8 +116,11 @@ weights_from i (w ∷ weights) rules text more is next =
     let at : w.place ≡ i + length m.before = ap (λ (z : WeightItem). z.place) e ∙ weight_at (i + length m.before) is.first.made_of.1 m.behind m.second in
     let some = weight_long (i + length m.before) is.first.made_of.1 m.behind m.second in
     let size : length is.before ≡ length m.before + length m.behind = ap length m.spelled ∙ length-append m.before m.behind in
-    let k : i + length text ≡ (i + length is.before) + length is.behind = omega (arith, ap length is.spelled, length-append is.before is.behind) in
-    (omega arith, lower_weights (i + length is.before) (suc w.place) weights rules (omega arith) (weights_from (i + length is.before) weights rules is.behind more is.second (subst (λ (j : ℕ). Many (behind_semicolon rule) j rules more) k next)))
+    let k : i + length text ≡ (i + length is.before) + length is.behind = omega (arith, ap length is.spelled, length-append is.before is.behind) in (
+      omega arith,
+      lower_weights (i + length is.before) (suc w.place) weights rules (omega arith) (weights_from (i + length is.before) weights rules is.behind
+          more is.second (subst (λ (j : ℕ). Many (behind_semicolon rule) j rules more) k next)),
+    )
 
 pub places_rise : (i : ℕ) (t : Items) (text : List ℕ) → rules_text i t text → WeightsFrom i t.weights t.rules
 places_rise i t text is =
@@ -111,5 +130,8 @@ places_rise i t text is =
     let e : t ≡ s.items_of is.made_of = is.same in
     let at = weight_at i w m.before m.first in
     let some = weight_long i w m.before m.first in
-    subst (λ (z : Items). WeightsFrom i z.weights z.rules) (sym e)
-    (omega (arith, at), lower_weights (i + length m.before) (suc w.place) is.made_of.1.0 is.made_of.1.1 (omega (arith, at, some)) (weights_from (i + length m.before) is.made_of.1.0 is.made_of.1.1 n.before n.behind n.first n.second))
+    subst (λ (z : Items). WeightsFrom i z.weights z.rules) (sym e) (
+      omega (arith, at),
+      lower_weights (i + length m.before) (suc w.place) is.made_of.1.0 is.made_of.1.1 (omega (arith, at, some))
+          (weights_from (i + length m.before) is.made_of.1.0 is.made_of.1.1 n.before n.behind n.first n.second),
+    )

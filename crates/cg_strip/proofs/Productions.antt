@@ -26,15 +26,18 @@ one_more : (j : ℕ) → Some_text (Then (One (only 44)) s.nat) j
 one_more j = then_text {S = s.nat} j (byte_text 44 refl j) nat_text
 
 two_more : (j : ℕ) → Some_text (Then (One (only 44)) (Then s.nat (Then (One (only 44)) s.nat))) j
-two_more j = then_text {S = Then s.nat (Then (One (only 44)) s.nat)} j (byte_text 44 refl j) (λ k. then_text {S = Then (One (only 44)) s.nat} k (nat_text k) one_more)
+two_more j = then_text {S = Then s.nat (Then (One (only 44)) s.nat)} j (byte_text 44 refl j) (λ k. then_text {S = Then (One (only 44)) s.nat} k (nat_text k)
+    one_more)
 
 numbers_ok : Lawful s.numbers r.numbers_at digit false digit
 unfolding r.numbers_at
 numbers_ok = made_ok (λ v. (v.0, (v.1.1.0, v.1.1.1.1)))
-    (then_ok nat_ok (then_ok (byte_ok 44 refl) (then_ok nat_ok (then_ok (byte_ok 44 refl) nat_ok nat_text refl) one_more refl) (λ j. then_text {S = Then (One (only 44)) s.nat} j (nat_text j) one_more) refl) two_more refl)
+    (then_ok nat_ok (then_ok (byte_ok 44 refl) (then_ok nat_ok (then_ok (byte_ok 44 refl) nat_ok nat_text refl) one_more refl) (λ j. then_text
+    {S = Then (One (only 44)) s.nat} j (nat_text j) one_more) refl) two_more refl)
 
 pub numbers_text : (j : ℕ) → Some_text s.numbers j
-numbers_text j = made_text (λ v. (v.0, (v.1.1.0, v.1.1.1.1))) j (then_text {S = Then (One (only 44)) (Then s.nat (Then (One (only 44)) s.nat))} j (nat_text j) two_more)
+numbers_text j = made_text (λ v. (v.0, (v.1.1.0, v.1.1.1.1))) j (then_text {S = Then (One (only 44)) (Then s.nat (Then (One (only 44)) s.nat))} j (nat_text j)
+    two_more)
 
 -- ---- behind the symbol of a weight
 
@@ -52,7 +55,8 @@ weighing_text j = made_text (λ v. v.1) j (then_text {S = s.numbers} j (byte_tex
 abbrev pub weight_of : Class → Piece WeightItem
 weight_of c = Made (λ v. weight_item v.0 v.1) (Then (Placed (One c)) weighing)
 
-pub weight_of_ok : (c : Class) (b : ℕ) → has c b ≡ true → Lawful (weight_of c) (made_at (λ v. weight_item v.0 v.1) (then_at (placed_at (one_at c)) r.weighing_at)) c false digit
+pub weight_of_ok : (c : Class) (b : ℕ) → has c b ≡ true → Lawful (weight_of c) (made_at (λ v. weight_item v.0 v.1) (then_at (placed_at (one_at c))
+    r.weighing_at)) c false digit
 weight_of_ok c b h = made_ok (λ v. weight_item v.0 v.1) (then_ok (placed_ok (one_lawful c b h)) weighing_ok weighing_text refl)
 
 -- ---- behind the letter of a rule
@@ -78,10 +82,12 @@ pattern_text j = then_text {S = Then (One s.greater) (Placed s.symbols)} j (plac
 
 pub rewriting_ok : Lawful rewriting r.rewriting_at s.colon false symbol
 unfolding r.rewriting_at
-rewriting_ok = made_ok (λ v. (v.1.0, v.1.1.1)) (then_ok (byte_ok 58 refl) (then_ok (placed_ok symbols_ok) (then_ok (byte_ok 62 refl) (placed_ok symbols_ok) placed_text refl) replacement_text refl) pattern_text refl)
+rewriting_ok = made_ok (λ v. (v.1.0, v.1.1.1)) (then_ok (byte_ok 58 refl) (then_ok (placed_ok symbols_ok) (then_ok (byte_ok 62 refl) (placed_ok symbols_ok)
+    placed_text refl) replacement_text refl) pattern_text refl)
 
 pub rewriting_text : (j : ℕ) → Some_text rewriting j
-rewriting_text j = made_text (λ v. (v.1.0, v.1.1.1)) j (then_text {S = Then (Placed s.symbols) (Then (One s.greater) (Placed s.symbols))} j (byte_text 58 refl j) pattern_text)
+rewriting_text j = made_text (λ v. (v.1.0, v.1.1.1)) j (then_text {S = Then (Placed s.symbols) (Then (One s.greater) (Placed s.symbols))} j (byte_text 58 refl
+    j) pattern_text)
 
 abbrev pub lettered_rule : Piece RuleItem
 lettered_rule = Made (λ v. rule_item (v.0.0, player_of v.0.1) v.1) (Then (Placed (One letter)) rewriting)
@@ -108,7 +114,8 @@ body_text j = left_text j (made_text inl j (weighing_text j))
 
 pub lettered_item_ok : Lawful lettered_item r.lettered_at letter false item_follow
 unfolding r.lettered_at
-lettered_item_ok = wide_ok letter item_follow (made_ok (λ v. lettered v.0 v.1) (then_ok (placed_ok (one_lawful letter 76 refl)) (or_ok (made_ok inl weighing_ok) (made_ok inr rewriting_ok) refl) body_text refl)) refl refl
+lettered_item_ok = wide_ok letter item_follow (made_ok (λ v. lettered v.0 v.1) (then_ok (placed_ok (one_lawful letter 76 refl)) (or_ok (made_ok inl weighing_ok)
+    (made_ok inr rewriting_ok) refl) body_text refl)) refl refl
 
 abbrev pub item : Piece (WeightItem ⊎ RuleItem)
 item = Or lettered_item (Made inl (weight_of other))

@@ -1,5 +1,6 @@
 -- A text in which no rule is broken is one of a game.
-use Rattle.std.proofs.Common.{◌≡◌, ◌≢◌, ℕ, zero, suc, ◌+◌, ◌^◌, ◌<◌, ◌≤◌, ◌==◌, ◌||◌, ◌&&◌, Bool, true, false, not, cond, List, [], ◌∷◌, ◌++◌, length, Option, Some, None, refl, ap, sym, subst, ◌∙◌, arith, length-append, eqb-true, ne_eqb}
+use Rattle.std.proofs.Common.{◌≡◌, ◌≢◌, ℕ, zero, suc, ◌+◌, ◌^◌, ◌<◌, ◌≤◌, ◌==◌, ◌||◌, ◌&&◌, Bool, true, false, not, cond, List, [], ◌∷◌}
+use Rattle.std.proofs.Common.{◌++◌, length, Option, Some, None, refl, ap, sym, subst, ◌∙◌, arith, length-append, eqb-true, ne_eqb}
 use Rattle.std.specs.Option.{option_or}
 use Rattle.std.specs.Prelude.{All, nat_le}
 use Rattle.std.specs.List.{list_all, list_any}
@@ -42,7 +43,8 @@ Fresh front (w ∷ items) = (is_weighted front w.weight.symbol ≡ false) × Fre
 fewer : (front more : List Weight) (items : List WeightItem) → Fresh (front ++ more) items → Fresh front items × Fresh more items
 fewer front more [] h = (tt, tt)
 fewer front more (w ∷ items) h =
-    let p = or_false (is_weighted front w.weight.symbol) (is_weighted more w.weight.symbol) (sym (list_any-append (λ v. v.symbol == w.weight.symbol) front more) ∙ h.0) in
+    let p = or_false (is_weighted front w.weight.symbol) (is_weighted more w.weight.symbol) (sym (list_any-append (λ v. v.symbol == w.weight.symbol) front more)
+    ∙ h.0) in
     let q = fewer front more items h.1 in
     ((p.0, q.0), (p.1, q.1))
 
@@ -62,7 +64,8 @@ or_none false h = refl
 alone : (w : Weight) (items : List WeightItem) → Fresh (w ∷ []) items → list_any (λ d. d == w.symbol) (symbols_of (weights_in items)) ≡ false
 alone w [] h = refl
 alone w (v ∷ items) h =
-    let other : (v.weight.symbol == w.symbol) ≡ false = ne_eqb v.weight.symbol w.symbol (λ e. eqb-false w.symbol v.weight.symbol (or_none (w.symbol == v.weight.symbol) h.0) (sym e)) in
+    let other : (v.weight.symbol == w.symbol) ≡ false = ne_eqb v.weight.symbol w.symbol (λ e. eqb-false w.symbol v.weight.symbol
+    (or_none (w.symbol == v.weight.symbol) h.0) (sym e)) in
     rw other (alone w items h.1)
 
 distinct : (front : List Weight) (items : List WeightItem) → weights_fault front items ≡ None → all_distinct (symbols_of (weights_in items)) ≡ true
@@ -92,12 +95,14 @@ symbol_is c h = grind arith
 weight_symbol : (i : ℕ) (w : WeightItem) (text : List ℕ) → weight i w text → is_symbol w.weight.symbol ≡ true
 weight_symbol i w text is = symbol_is w.weight.symbol (ap (λ (z : WeightItem). has symbol z.weight.symbol) is.same ∙ is.is.first.1.within)
 
-weight_symbols : (i : ℕ) (items : List WeightItem) (text : List ℕ) → Many (behind_semicolon weight) i items text → list_all is_symbol (symbols_of (weights_in items)) ≡ true
+weight_symbols : (i : ℕ) (items : List WeightItem) (text : List ℕ) → Many (behind_semicolon weight) i items text → list_all is_symbol
+    (symbols_of (weights_in items)) ≡ true
 weight_symbols i [] text is = refl
 weight_symbols i (w ∷ items) text is =
     let m = is.first.is in
     let one = ap (λ (z : WeightItem). is_symbol z.weight.symbol) is.first.same ∙ weight_symbol (i + length m.before) is.first.made_of.1 m.behind m.second in
-    and_from (is_symbol w.weight.symbol) (list_all is_symbol (symbols_of (weights_in items))) one (weight_symbols (i + length is.before) items is.behind is.second)
+    and_from (is_symbol w.weight.symbol) (list_all is_symbol (symbols_of (weights_in items))) one (weight_symbols (i + length is.before) items is.behind
+    is.second)
 
 -- ---- nothing is wrong with the rules
 
@@ -125,23 +130,38 @@ rule_in_text i r text is =
 
 all_later : (end far : ℕ) (rules : List RuleItem) → end ≤ far → AllInText end rules → AllInText far rules
 all_later end far [] h o = tt
-all_later end far (r ∷ rules) h o = (record { some = o.0.some; pattern = omega (arith, o.0.pattern); replacement = omega (arith, o.0.replacement) }, all_later end far rules h o.1)
+all_later end far (r ∷ rules) h o = (
+  record { some = o.0.some; pattern = omega (arith, o.0.pattern); replacement = omega (arith, o.0.replacement) },
+  all_later end far rules h o.1,
+)
 
 rules_in_text : (i : ℕ) (rules : List RuleItem) (text : List ℕ) → Many (behind_semicolon rule) i rules text → AllInText (i + length text) rules
 rules_in_text i [] text is = tt
 rules_in_text i (r ∷ rules) text is =
     let m = is.first.is in
-    let a = subst (λ (z : RuleItem). InText ((i + length m.before) + length m.behind) z) (sym is.first.same) (rule_in_text (i + length m.before) is.first.made_of.1 m.behind m.second) in
+    let a = subst (λ (z : RuleItem). InText ((i + length m.before) + length m.behind) z) (sym is.first.same) (rule_in_text (i + length m.before)
+    is.first.made_of.1 m.behind m.second) in
     let one : length is.before ≡ length m.before + length m.behind = ap length m.spelled ∙ length-append m.before m.behind in
-    let all : length text ≡ length is.before + length is.behind = ap length is.spelled ∙ length-append is.before is.behind in
-    (record { some = a.some; pattern = omega (arith, a.pattern); replacement = omega (arith, a.replacement) }, all_later ((i + length is.before) + length is.behind) (i + length text) rules (omega arith) (rules_in_text (i + length is.before) rules is.behind is.second))
+    let all : length text ≡ length is.before + length is.behind = ap length is.spelled ∙ length-append is.before is.behind in (
+      record { some = a.some; pattern = omega (arith, a.pattern); replacement = omega (arith, a.replacement) },
+      all_later ((i + length is.before) + length
+          is.behind) (i + length text) rules (omega arith) (rules_in_text (i + length is.before) rules is.behind is.second),
+    )
 
 text_rules : (t : Items) (text : List ℕ) → rules_text 1 t text → AllInText (1 + length text) t.rules
 text_rules t text is =
     let n = is.is.second in
-    let all : length text ≡ length is.is.before + (length n.before + length n.behind) = omega (arith, ap length is.is.spelled, length-append is.is.before is.is.behind, ap length n.spelled, length-append n.before n.behind) in
+    let all : length text ≡ length is.is.before + (length n.before + length n.behind) = omega (
+      arith,
+      ap length is.is.spelled,
+      length-append is.is.before
+          is.is.behind,
+      ap length n.spelled,
+      length-append n.before n.behind,
+    ) in
     subst (λ (z : Items). AllInText (1 + length text) z.rules) (sym is.same)
-    (all_later (((1 + length is.is.before) + length n.before) + length n.behind) (1 + length text) is.made_of.1.1 (omega arith) (rules_in_text ((1 + length is.is.before) + length n.before) is.made_of.1.1 n.behind n.second))
+    (all_later (((1 + length is.is.before) + length n.before) + length n.behind) (1 + length text) is.made_of.1.1 (omega arith) (rules_in_text
+    ((1 + length is.is.before) + length n.before) is.made_of.1.1 n.behind n.second))
 
 -- the places of a text's rules are numbers of 64 bits
 pub text_places : (t : Items) (text : List ℕ) → rules_text 1 t text → length text + 1 < 2 ^ 64 → All HasPlaces t.rules
@@ -152,7 +172,8 @@ text_places t text is h = each t.rules (text_rules t text is)
     each (r ∷ rules) o zero d below = record { pattern = omega (arith, o.0.pattern); replacement = omega (arith, o.0.replacement) }
     each (r ∷ rules) o (suc k) d below = each rules o.1 k d (omega arith)
 
-all_weighted : (weights : List Weight) (place : ℕ) (symbols : List ℕ) → unweighted_fault weights place symbols ≡ None → list_all (is_weighted weights) symbols ≡ true
+all_weighted : (weights : List Weight) (place : ℕ) (symbols : List ℕ) → unweighted_fault weights place symbols ≡ None → list_all (is_weighted weights) symbols
+    ≡ true
 unfolding unweighted_fault
 all_weighted weights place [] e = refl
 all_weighted weights place (c ∷ symbols) e =
@@ -166,7 +187,8 @@ not_not false e = absurd cc
 fine_rule : (weights : List Weight) (n end : ℕ) (r : RuleItem) → InText end r → rule_fault weights n r ≡ None → (n ≢ 32) × IsRule weights r.rule
 unfolding rule_fault
 fine_rule weights n end r o e =
-    let p = not_found (is_bad_rule n r) r.place (option_or (unweighted_fault weights r.pattern_place r.rule.pattern) (unweighted_fault weights r.replacement_place r.rule.replacement)) e in
+    let p = not_found (is_bad_rule n r) r.place (option_or (unweighted_fault weights r.pattern_place r.rule.pattern) (unweighted_fault weights
+    r.replacement_place r.rule.replacement)) e in
     let q = none_of (unweighted_fault weights r.pattern_place r.rule.pattern) (unweighted_fault weights r.replacement_place r.rule.replacement) p.1 in
     let b = or_false (n == 32) (not (length r.rule.pattern == length r.rule.replacement)) p.0 in (
       eqb-false n 32 b.0,
@@ -178,7 +200,8 @@ fine_rule weights n end r o e =
       },
     )
 
-fine_rules : (weights : List Weight) (n end : ℕ) (rules : List RuleItem) → AllInText end rules → n ≤ 32 → rules_fault weights n rules ≡ None → (n + length rules ≤ 32) × All (IsRule weights) (rules_in rules)
+fine_rules : (weights : List Weight) (n end : ℕ) (rules : List RuleItem) → AllInText end rules → n ≤ 32 → rules_fault weights n rules ≡ None →
+    (n + length rules ≤ 32) × All (IsRule weights) (rules_in rules)
 unfolding rules_fault
 fine_rules weights n end [] o h e = (omega arith, λ k d below. absurd (omega arith))
 fine_rules weights n end (r ∷ rules) o h e =
@@ -198,16 +221,19 @@ book_sound t text is e =
     let g = fine_rules (weights_in t.weights) 0 (1 + length text) t.rules (text_rules t text is) (omega arith) p.1 in
     let few = few_weights [] t.weights (omega arith) p.0 in
     let some : 1 ≤ length t.weights = omega (arith, ap (λ (z : Items). length z.weights) is.same) in
-    let count : length (symbols_of (weights_in t.weights)) ≡ length t.weights = length-map (weights_in t.weights) (λ w. w.symbol) ∙ length-map t.weights (λ w. w.weight) in
+    let count : length (symbols_of (weights_in t.weights)) ≡ length t.weights = length-map (weights_in t.weights) (λ w. w.symbol) ∙ length-map t.weights
+    (λ w. w.weight) in
     let n = is.is.second in
     let first = weight_symbol 1 is.made_of.0 is.is.before is.is.first in
     let others = weight_symbols (1 + length is.is.before) is.made_of.1.0 n.before n.first in
     let all : list_all is_symbol (symbols_of (weights_in t.weights)) ≡ true =
-    ap (λ (z : Items). list_all is_symbol (symbols_of (weights_in z.weights))) is.same ∙ and_from (is_symbol is.made_of.0.weight.symbol) (list_all is_symbol (symbols_of (weights_in is.made_of.1.0))) first others in
+    ap (λ (z : Items). list_all is_symbol (symbols_of (weights_in z.weights))) is.same ∙ and_from (is_symbol is.made_of.0.weight.symbol) (list_all is_symbol
+    (symbols_of (weights_in is.made_of.1.0))) first others in
     let cs = symbols_of (weights_in t.weights) in
     record {
       symbols = and_from (nat_le 1 (length cs) && nat_le (length cs) 16 && list_all is_symbol cs) (all_distinct cs)
-          (and_from (nat_le 1 (length cs) && nat_le (length cs) 16) (list_all is_symbol cs) (and_from (nat_le 1 (length cs)) (nat_le (length cs) 16) (le-leb 1 (length cs) (omega arith)) (le-leb (length cs) 16 (omega (arith, few)))) all)
+          (and_from (nat_le 1 (length cs) && nat_le (length cs) 16) (list_all is_symbol cs) (and_from (nat_le 1 (length cs)) (nat_le (length cs) 16)
+          (le-leb 1 (length cs) (omega arith)) (le-leb (length cs) 16 (omega (arith, few)))) all)
           (distinct [] t.weights p.0);
       few = omega (arith, g.0, length-map t.rules (λ r. r.rule));
       rules = g.1;

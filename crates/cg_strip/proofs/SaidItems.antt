@@ -25,7 +25,13 @@ weight_is c h i w text is =
     let n = t.second in
     record {
       made_of = (v.0, n.made_of);
-      is = record { before = t.before; behind = t.behind; first = (t.first.0, one_wider c symbol i v.0.1 t.before h t.first.1); second = n.is; spelled = t.spelled };
+      is = record {
+        before = t.before;
+        behind = t.behind;
+        first = (t.first.0, one_wider c symbol i v.0.1 t.before h t.first.1);
+        second = n.is;
+        spelled = t.spelled;
+      };
       same = is.same ∙ ap (λ z. weight_item v.0 z) n.same;
     }
 
@@ -35,7 +41,13 @@ weight_as c i w text is h =
     let t = is.is in
     record {
       made_of = (v.0, v.1.1);
-      is = record { before = t.before; behind = t.behind; first = (t.first.0, record { within = h; spelled = t.first.1.spelled }); second = record { made_of = v.1; is = t.second; same = refl }; spelled = t.spelled };
+      is = record {
+        before = t.before;
+        behind = t.behind;
+        first = (t.first.0, record { within = h; spelled = t.first.1.spelled });
+        second = record { made_of = v.1; is = t.second; same = refl };
+        spelled = t.spelled;
+      };
       same = is.same;
     }
 
@@ -54,8 +66,18 @@ player_is i b text is = elim (letter_cases b is.within) [
 ]
 
 player_as : (i : ℕ) (p : Player) (text : List ℕ) → s.player i p text → (b : ℕ) × One letter i b text × (p ≡ player_of b)
-player_as i p text (inl is) = (is.made_of, one_wider s.letter_l letter i is.made_of text refl is.is, is.same ∙ ap player_of (sym (only_is 76 is.made_of is.is.within)))
-player_as i p text (inr is) = (is.made_of, one_wider s.letter_r letter i is.made_of text refl is.is, is.same ∙ ap player_of (sym (only_is 82 is.made_of is.is.within)))
+player_as i p text (inl is) = (
+  is.made_of,
+  one_wider s.letter_l letter i is.made_of text refl is.is,
+  is.same ∙ ap player_of
+      (sym (only_is 76 is.made_of is.is.within)),
+)
+player_as i p text (inr is) = (
+  is.made_of,
+  one_wider s.letter_r letter i is.made_of text refl is.is,
+  is.same ∙ ap player_of
+      (sym (only_is 82 is.made_of is.is.within)),
+)
 
 pub rule_is : (i : ℕ) (v : RuleItem) (text : List ℕ) → lettered_rule i v text → s.rule i v text
 rule_is i v text is =
@@ -68,7 +90,17 @@ rule_is i v text is =
         before = t.before;
         behind = t.behind;
         first = (t.first.0, player_is i p.1 t.before t.first.1);
-        second = record { before = n.is.before; behind = n.is.behind; first = n.is.first; second = record { made_of = n.made_of.1; is = n.is.second; same = refl }; spelled = n.is.spelled };
+        second = record {
+          before = n.is.before;
+          behind = n.is.behind;
+          first = n.is.first;
+          second = record {
+            made_of = n.made_of.1;
+            is = n.is.second;
+            same = refl;
+          };
+          spelled = n.is.spelled;
+        };
         spelled = t.spelled;
       };
       same = is.same ∙ ap (λ z. rule_item (p.0, player_of p.1) z) n.same;
@@ -111,16 +143,31 @@ capital_is b h = grind arith
 
 pub symbol_is : (b : ℕ) → has letter b ≡ false → has symbol b ≡ has other b
 symbol_is b h =
-    ap (λ (x : Bool). (leb 46 b && leb b 46) || x) (has_append capital ((97, 122) ∷ []) b ∙ ap (λ (x : Bool). x || has ((97, 122) ∷ []) b) (capital_is b h) ∙ sym (has_append other_capital ((97, 122) ∷ []) b))
+    ap (λ (x : Bool). (leb 46 b && leb b 46) || x) (has_append capital ((97, 122) ∷ []) b ∙ ap (λ (x : Bool). x || has ((97, 122) ∷ []) b) (capital_is b h)
+    ∙ sym (has_append other_capital ((97, 122) ∷ []) b))
 
 lettered_is : (i : ℕ) (x : WeightItem ⊎ RuleItem) (text : List ℕ) → lettered_item i x text → Either s.weight s.rule i x text
 lettered_is i x text is = by_body is.is.second
   where
     by_body : Or (Made inl weighing) (Made inr rewriting) (i + length is.is.before) is.made_of.1 is.is.behind → Either s.weight s.rule i x text
     by_body (inl m) = subst (λ (z : WeightItem ⊎ RuleItem). Either s.weight s.rule i z text) (sym (is.same ∙ ap (lettered is.made_of.0) m.same))
-        (weight_is letter refl i (weight_item is.made_of.0 m.made_of) text (record { made_of = (is.made_of.0, m.made_of); is = record { before = is.is.before; behind = is.is.behind; first = is.is.first; second = m.is; spelled = is.is.spelled }; same = refl }))
+        (weight_is letter refl i (weight_item is.made_of.0 m.made_of) text (record {
+          made_of = (is.made_of.0, m.made_of);
+          is = record {
+            before = is.is.before;
+            behind = is.is.behind;
+            first = is.is.first;
+            second = m.is;
+            spelled = is.is.spelled;
+          };
+          same = refl;
+        }))
     by_body (inr m) = subst (λ (z : WeightItem ⊎ RuleItem). Either s.weight s.rule i z text) (sym (is.same ∙ ap (lettered is.made_of.0) m.same))
-        (rule_is i (rule_item (is.made_of.0.0, player_of is.made_of.0.1) m.made_of) text (record { made_of = (is.made_of.0, m.made_of); is = record { before = is.is.before; behind = is.is.behind; first = is.is.first; second = m.is; spelled = is.is.spelled }; same = refl }))
+        (rule_is i (rule_item (is.made_of.0.0, player_of is.made_of.0.1) m.made_of) text (record {
+          made_of = (is.made_of.0, m.made_of);
+          is = record { before = is.is.before; behind = is.is.behind; first = is.is.first; second = m.is; spelled = is.is.spelled };
+          same = refl;
+        }))
 
 pub item_is : (i : ℕ) (x : WeightItem ⊎ RuleItem) (text : List ℕ) → item i x text → Either s.weight s.rule i x text
 item_is i x text (inl is) = lettered_is i x text is
@@ -134,7 +181,17 @@ item_as i (inl w) text is = by_letter (has letter is.made_of.0.1) refl
         let a = weight_as letter i w text is h in
         inl (record {
           made_of = (a.made_of.0, inl a.made_of.1);
-          is = record { before = a.is.before; behind = a.is.behind; first = a.is.first; second = inl (record { made_of = a.made_of.1; is = a.is.second; same = refl }); spelled = a.is.spelled };
+          is = record {
+            before = a.is.before;
+            behind = a.is.behind;
+            first = a.is.first;
+            second = inl (record {
+              made_of = a.made_of.1;
+              is = a.is.second;
+              same = refl;
+            });
+            spelled = a.is.spelled;
+          };
           same = ap inl a.same;
         })
     by_letter false h = inr (record { made_of = w; is = weight_as other i w text is (sym (symbol_is is.made_of.0.1 h) ∙ is.is.first.1.within); same = refl })
@@ -142,7 +199,17 @@ item_as i (inr v) text is =
     let a = rule_as i v text is in
     inl (record {
       made_of = (a.made_of.0, inr a.made_of.1);
-      is = record { before = a.is.before; behind = a.is.behind; first = a.is.first; second = inr (record { made_of = a.made_of.1; is = a.is.second; same = refl }); spelled = a.is.spelled };
+      is = record {
+        before = a.is.before;
+        behind = a.is.behind;
+        first = a.is.first;
+        second = inr (record {
+          made_of = a.made_of.1;
+          is = a.is.second;
+          same = refl;
+        });
+        spelled = a.is.spelled;
+      };
       same = ap inr a.same;
     })
 
@@ -151,7 +218,8 @@ item_as i (inr v) text is =
 abbrev pub turn : Piece (WeightItem ⊎ RuleItem)
 turn = s.behind_semicolon item
 
-either_behind : (i b : ℕ) (x : WeightItem ⊎ RuleItem) (text : List ℕ) → Then (One s.semicolon) (Either s.weight s.rule) i (b, x) text → Either (s.behind_semicolon s.weight) (s.behind_semicolon s.rule) i x text
+either_behind : (i b : ℕ) (x : WeightItem ⊎ RuleItem) (text : List ℕ) → Then (One s.semicolon) (Either s.weight s.rule) i (b, x) text →
+    Either (s.behind_semicolon s.weight) (s.behind_semicolon s.rule) i x text
 either_behind i b (inl w) text is = record { made_of = (b, w); is = is; same = refl }
 either_behind i b (inr r) text is = record { made_of = (b, r); is = is; same = refl }
 
@@ -159,12 +227,38 @@ pub turn_is : (i : ℕ) (x : WeightItem ⊎ RuleItem) (text : List ℕ) → turn
 turn_is i x text is =
     let t = is.is in
     subst (λ (z : WeightItem ⊎ RuleItem). Either (s.behind_semicolon s.weight) (s.behind_semicolon s.rule) i z text) (sym is.same)
-    (either_behind i is.made_of.0 is.made_of.1 text (record { before = t.before; behind = t.behind; first = t.first; second = item_is (i + length t.before) is.made_of.1 t.behind t.second; spelled = t.spelled }))
+    (either_behind i is.made_of.0 is.made_of.1 text (record {
+      before = t.before;
+      behind = t.behind;
+      first = t.first;
+      second = item_is (i + length t.before) is.made_of.1 t.behind t.second;
+      spelled = t.spelled;
+    }))
 
 pub turn_as : (i : ℕ) (x : WeightItem ⊎ RuleItem) (text : List ℕ) → Either (s.behind_semicolon s.weight) (s.behind_semicolon s.rule) i x text → turn i x text
 turn_as i (inl w) text is =
     let t = is.is in
-    record { made_of = (is.made_of.0, inl is.made_of.1); is = record { before = t.before; behind = t.behind; first = t.first; second = item_as (i + length t.before) (inl is.made_of.1) t.behind t.second; spelled = t.spelled }; same = ap inl is.same }
+    record {
+      made_of = (is.made_of.0, inl is.made_of.1);
+      is = record {
+        before = t.before;
+        behind = t.behind;
+        first = t.first;
+        second = item_as (i + length t.before) (inl is.made_of.1) t.behind t.second;
+        spelled = t.spelled;
+      };
+      same = ap inl is.same;
+    }
 turn_as i (inr r) text is =
     let t = is.is in
-    record { made_of = (is.made_of.0, inr is.made_of.1); is = record { before = t.before; behind = t.behind; first = t.first; second = item_as (i + length t.before) (inr is.made_of.1) t.behind t.second; spelled = t.spelled }; same = ap inr is.same }
+    record {
+      made_of = (is.made_of.0, inr is.made_of.1);
+      is = record {
+        before = t.before;
+        behind = t.behind;
+        first = t.first;
+        second = item_as (i + length t.before) (inr is.made_of.1) t.behind t.second;
+        spelled = t.spelled;
+      };
+      same = ap inr is.same;
+    }

@@ -23,11 +23,13 @@ read_places text t h n = text_places t text (takes text t h) n
 pub read_book : (text : List ℕ) (t : Items) → whole_at rules_text_at text ≡ Ok t → fault_of t ≡ None → IsRulebook (book_of t)
 read_book text t h e = book_sound t text (takes text t h) e
 
-pub read_ok : (text : List ℕ) (t : Items) (r : Result Rulebook BoardFault) → whole_at rules_text_at text ≡ Ok t → IsStripOf t (fault_of t) r → IfOk r (IsReadAs text)
+pub read_ok : (text : List ℕ) (t : Items) (r : Result Rulebook BoardFault) → whole_at rules_text_at text ≡ Ok t → IsStripOf t (fault_of t) r →
+    IfOk r (IsReadAs text)
 read_ok text t (Ok book) h o = let is = takes text t h in record { items = t; is = is; sound = none_broken t text is o.0; same = o.1 }
 read_ok text t (Err f) h o = tt
 
-pub read_err : (text : List ℕ) (t : Items) (r : Result Rulebook BoardFault) → whole_at rules_text_at text ≡ Ok t → IsStripOf t (fault_of t) r → IfErr r (IsRefused text)
+pub read_err : (text : List ℕ) (t : Items) (r : Result Rulebook BoardFault) → whole_at rules_text_at text ≡ Ok t → IsStripOf t (fault_of t) r →
+    IfErr r (IsRefused text)
 read_err text t (Ok book) h o = tt
 read_err text t (Err faults.Memory) h o = tt
 read_err text t (Err (faults.Rules p)) h o = let is = takes text t h in inr (t, is, broken_at t text p is o)

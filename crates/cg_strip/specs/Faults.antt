@@ -29,7 +29,8 @@ is_bad_rule n r = (n == 32) || not (length r.rule.pattern == length r.rule.repla
 
 -- the first fault in the rule behind so many others
 unfoldable pub rule_fault : List Weight → ℕ → RuleItem → Option ℕ
-rule_fault weights n r = cond (is_bad_rule n r) (Some r.place) (option_or (unweighted_fault weights r.pattern_place r.rule.pattern) (unweighted_fault weights r.replacement_place r.rule.replacement))
+rule_fault weights n r = cond (is_bad_rule n r) (Some r.place) (option_or (unweighted_fault weights r.pattern_place r.rule.pattern) (unweighted_fault weights
+    r.replacement_place r.rule.replacement))
 
 unfoldable pub rules_fault : List Weight → ℕ → List RuleItem → Option ℕ
 rules_fault weights n [] = None

@@ -31,7 +31,8 @@ ToadsAreStrip = (book : Rulebook) → IsReadAs toads_text book → (player : Pla
 
 -- what is listed are exactly the placements of the player's rules
 abbrev pub ListedArePlacements : Type 0
-ListedArePlacements = (book : Rulebook) → IsRulebook book → (player : Player) (row after : List ℕ) → In after (moves_by book.rules player row) ↔ IsMove book.rules player row after
+ListedArePlacements = (book : Rulebook) → IsRulebook book → (player : Player) (row after : List ℕ) → In after (moves_by book.rules player row) ↔ IsMove
+    book.rules player row after
 
 -- what is listed are exactly the moves of Toads and Frogs
 abbrev pub ListedAreHops : Type 0

@@ -24,17 +24,21 @@ pub record IsUnweighted (weights : List Weight) (symbols : List ℕ) (k : ℕ) :
 -- the place is one at which a rule beyond the grammar is broken
 pub data IsBroken (t : Items) (p : ℕ) : Type 0 where
   -- a symbol that starts a second weight of the same symbol
-  second_weight : (before behind : List WeightItem) (w : WeightItem) → t.weights ≡ before ++ w ∷ behind → is_weighted (weights_in before) w.weight.symbol ≡ true → p ≡ w.place → IsBroken t p
+  second_weight : (before behind : List WeightItem) (w : WeightItem) → t.weights ≡ before ++ w ∷ behind → is_weighted (weights_in before) w.weight.symbol ≡ true
+      → p ≡ w.place → IsBroken t p
   -- a symbol that starts the seventeenth weight
   seventeenth_weight : (before behind : List WeightItem) (w : WeightItem) → t.weights ≡ before ++ w ∷ behind → length before ≡ 16 → p ≡ w.place → IsBroken t p
   -- the letter that starts the thirty-third rule
   thirty_third_rule : (before behind : List RuleItem) (r : RuleItem) → t.rules ≡ before ++ r ∷ behind → length before ≡ 32 → p ≡ r.place → IsBroken t p
   -- a symbol of a pattern that has no weight
-  in_pattern : (before behind : List RuleItem) (r : RuleItem) (k : ℕ) → t.rules ≡ before ++ r ∷ behind → IsUnweighted (weights_in t.weights) r.rule.pattern k → p ≡ r.pattern_place + k → IsBroken t p
+  in_pattern : (before behind : List RuleItem) (r : RuleItem) (k : ℕ) → t.rules ≡ before ++ r ∷ behind → IsUnweighted (weights_in t.weights) r.rule.pattern k →
+      p ≡ r.pattern_place + k → IsBroken t p
   -- a symbol of a replacement that has no weight
-  in_replacement : (before behind : List RuleItem) (r : RuleItem) (k : ℕ) → t.rules ≡ before ++ r ∷ behind → IsUnweighted (weights_in t.weights) r.rule.replacement k → p ≡ r.replacement_place + k → IsBroken t p
+  in_replacement : (before behind : List RuleItem) (r : RuleItem) (k : ℕ) → t.rules ≡ before ++ r ∷ behind → IsUnweighted (weights_in t.weights)
+      r.rule.replacement k → p ≡ r.replacement_place + k → IsBroken t p
   -- the letter that starts a rule whose pattern and replacement differ in length
-  uneven_rule : (before behind : List RuleItem) (r : RuleItem) → t.rules ≡ before ++ r ∷ behind → length r.rule.pattern ≢ length r.rule.replacement → p ≡ r.place → IsBroken t p
+  uneven_rule : (before behind : List RuleItem) (r : RuleItem) → t.rules ≡ before ++ r ∷ behind → length r.rule.pattern ≢ length r.rule.replacement →
+      p ≡ r.place → IsBroken t p
 
 -- the least of these places
 pub record IsFirstBroken (t : Items) (p : ℕ) : Type 0 where

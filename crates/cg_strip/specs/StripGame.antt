@@ -15,7 +15,8 @@ is_even r = length r.pattern == length r.replacement
 
 -- one row of the game's symbols, of a length at which every rule lowers the sum of the weights
 abbrev pub is_strip_board : Rulebook → Grid → Bool
-is_strip_board book p = (p.rows == 1) && bytes_eq p.symbols (symbols_of book.weights) && list_all is_even book.rules && do_all_lower book.weights (length p.cells) book.rules
+is_strip_board book p = (p.rows == 1) && bytes_eq p.symbols (symbols_of book.weights) && list_all is_even book.rules && do_all_lower book.weights
+    (length p.cells) book.rules
 
 abbrev pub strip_game : Rulebook → GameRules
 strip_game book = record {

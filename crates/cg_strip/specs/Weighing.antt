@@ -1,5 +1,6 @@
 -- What the cells of a row weigh, and which rules lower that.
-use Rattle.std.specs.Prelude.{ℕ, zero, suc, ◌+◌, ◌-◌, ◌*◌, ◌≡◌, ◌<◌, ◌≤◌, ◌==◌, ◌&&◌, Bool, true, cond, nat_lt, nat_le, List, [], ◌∷◌, ◌++◌, length, Option, Some, None, All}
+use Rattle.std.specs.Prelude.{ℕ, zero, suc, ◌+◌, ◌-◌, ◌*◌, ◌≡◌, ◌<◌, ◌≤◌, ◌==◌, ◌&&◌, Bool, true, cond}
+use Rattle.std.specs.Prelude.{nat_lt, nat_le, List, [], ◌∷◌, ◌++◌, length, Option, Some, None, All}
 use Rattle.cg_strip.specs.Placing.{IsPlacedAt}
 use Rattle.cg_strip.specs.Rulebook.{Rulebook}
 use Rattle.cg_strip.specs.declared.weight.Weight.{Weight}

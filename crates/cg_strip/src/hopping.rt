@@ -1,5 +1,6 @@
 //! The hops of toads and frogs.
-ghost use Rattle.std.specs.Prelude.{◌≡◌, ◌+◌, ◌++◌, ◌<◌, ◌≤◌, ◌==◌, ◌∷◌, [], Contains, IfOk, codes, cond, length, map, true};
+ghost use Rattle.std.specs.Prelude.{◌≡◌, ◌+◌, ◌++◌, ◌<◌, ◌≤◌, ◌==◌, ◌∷◌, []};
+ghost use Rattle.std.specs.Prelude.{Contains, IfOk, codes, cond, length, map, true};
 ghost use Rattle.std.specs.Int.{bit_at};
 ghost use Rattle.cg_moves.specs.Grid.{AreCells, with_cells};
 ghost use Rattle.cg_moves.specs.PlaneBits.{index_of};
@@ -161,8 +162,8 @@ fn hops_on(
     Ok(())
 }
 
-/// Puts the boards after the player's hops in the place of these boards: Left's from the first cell on, and Right's from the
-/// last one back, so that they rise.
+/// Puts the boards after the player's hops in the place of these boards: Left's from the first cell on, and Right's
+/// from the last one back, so that they rise.
 pub(crate) fn hops(
     alloc: Global,
     board: &Board,

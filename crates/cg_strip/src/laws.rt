@@ -14,15 +14,15 @@ pub fn one_game()
         → book ≡ other }
 {}
 
-/// The text `.=0,0,0;T=0,0,1;F=0,1,0;L:T.>.T;L:TF.>.FT;R:.F>F.;R:.TF>FT.` reads as a strip game, which has these weights and
-/// rules; and on each row Toads and Frogs has the moves of the strip game that it reads as.
+/// The text `.=0,0,0;T=0,0,1;F=0,1,0;L:T.>.T;L:TF.>.FT;R:.F>F.;R:.TF>FT.` reads as a strip game, which has these
+/// weights and rules; and on each row Toads and Frogs has the moves of the strip game that it reads as.
 pub fn toads_are_strip()
     ensures reads { IsReadAs toads_text toads_book }
     ensures moves { ToadsAreStrip }
 {}
 
-/// The moves of a strip game are exactly the placements of the player's rules, in rising order of the bytes of the cells that
-/// they lead to, each once.
+/// The moves of a strip game are exactly the placements of the player's rules, in rising order of the bytes of the
+/// cells that they lead to, each once.
 pub fn strip_moves()
     ensures placements { ListedArePlacements }
     ensures order { (book : Rulebook) (player : Player) (row : List ℕ) → IsRising (moves_by book.rules player row) }

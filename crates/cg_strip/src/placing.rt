@@ -4,14 +4,16 @@ ghost use Rattle.std.specs.Int.{bit_at};
 ghost use Rattle.std.specs.List.{flat_map};
 ghost use Rattle.cg_moves.specs.Grid.{AreCells, with_cells};
 ghost use Rattle.cg_moves.specs.Words.{Marks};
-ghost use Rattle.cg_strip.specs.Placing.{IsChange, IsRuleOver, all_placed, is_same_player, placements, stands_at, written};
+ghost use Rattle.cg_strip.specs.Placing.{IsChange, IsRuleOver, all_placed, is_same_player};
+ghost use Rattle.cg_strip.specs.Placing.{placements, stands_at, written};
 
 use crate::rule::Rule;
 use cg_moves::words::{all_cells, bit, moved_back};
 use cg_moves::{Board, Player};
 use std::alloc::{AllocError, Global};
 
-/// The cells at which the pattern stands on the board: bit i is 1 exactly where it stands at cell i and those that follow.
+/// The cells at which the pattern stands on the board: bit i is 1 exactly where it stands at cell i and those that
+/// follow.
 fn standing(board: &Board, pattern: &[u8]) -> u64
     requires { AreCells board.now.symbols pattern.now }
     ensures { Marks result (stands_at board.now.cells pattern.now) }

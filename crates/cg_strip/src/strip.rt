@@ -37,8 +37,9 @@ impl Model for Strip {
 impl Strip {
     /// The strip game of these rules.
     ///
-    /// `Rules` comes exactly where the text is refused, with the place: 1 plus the length of the longest prefix that some
-    /// text of the grammar has, too; and for a text of the grammar the first place at which a rule beyond it is broken.
+    /// `Rules` comes exactly where the text is refused, with the place: 1 plus the length of the longest prefix that
+    /// some text of the grammar has, too; and for a text of the grammar the first place at which a rule beyond it is
+    /// broken.
     pub fn read(alloc: Global, rules: &[u8]) -> Result<Strip, BoardFault>
         ensures read { IfOk result (IsReadAs rules.now) }
         ensures refused { IfErr result (IsRefused rules.now) }
@@ -54,8 +55,8 @@ impl Strip {
 
     /// The board of a text: one row of the symbols that have a weight.
     ///
-    /// The first of these that applies is the refusal: the text is refused as one row of these symbols; or `Lowering`, with
-    /// the number of the first rule that doesn't lower the sum of the weights at some cell where its pattern fits.
+    /// The first of these that applies is the refusal: the text is refused as one row of these symbols; or `Lowering`,
+    /// with the number of the first rule that doesn't lower the sum of the weights at some cell where its pattern fits.
     pub fn board(&self, alloc: Global, text: &[u8]) -> Result<Board, BoardFault>
         ensures read { IfOk result (IsBoardOf self.now text.now) }
         ensures refused { IfErr result (IsBoardRefused self.now text.now) }

@@ -47,8 +47,8 @@ impl Rules for Toads {
     }
 }
 
-/// The board of a text: one row of toads, frogs and empty cells. Where it is refused, it is for the first of the causes by
-/// which any row of these symbols is. It takes no memory.
+/// The board of a text: one row of toads, frogs and empty cells. Where it is refused, it is for the first of the causes
+/// by which any row of these symbols is. It takes no memory.
 pub fn read_toads(alloc: Global, text: &[u8]) -> Result<Board, BoardFault>
     ensures read { IfOk result (IsToadsBoard text.now) }
     ensures refused { IfErr result (IsNoToadsBoard text.now) }

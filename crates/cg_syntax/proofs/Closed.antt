@@ -1,8 +1,10 @@
 -- What has no names is expanded to itself, and what a line of format 1 asks has none.
 use Rattle.std.proofs.Common.{◌≡◌, refl, ap, ◌∙◌, List, [], ◌∷◌, ◌++◌, ℕ}
-use Rattle.cg_query.specs.Tree.{Tree, Trees, Terms, Question, number, ups, nimber, switch, tiny, sides, negative, multiple, sum, game, octal, used, no_trees, with_tree, no_terms, with_term, value, compare, outcome, stops, mean, temp, thermo, proof, check}
+use Rattle.cg_query.specs.Tree.{Tree, Trees, Terms, Question, number, ups, nimber, switch, tiny, sides, negative, multiple, sum, game, octal, used}
+use Rattle.cg_query.specs.Tree.{no_trees, with_tree, no_terms, with_term, value, compare, outcome, stops, mean, temp, thermo, proof, check}
 use Rattle.cg_grammar.specs.Written.{AreFurther, AreTerms, AreWritable, IsAskable, IsSum, IsWritable}
-use Rattle.cg_syntax.specs.Naming.{AreClosed, AreClosedTerms, Bindings, IsClosed, IsClosedQuestion, expanded, expanded_all, expanded_terms, uses, uses_all, uses_terms, uses_of, trees_of_question, question_expanded}
+use Rattle.cg_syntax.specs.Naming.{AreClosed, AreClosedTerms, Bindings, IsClosed, IsClosedQuestion, expanded, expanded_all}
+use Rattle.cg_syntax.specs.Naming.{expanded_terms, uses, uses_all, uses_terms, uses_of, trees_of_question, question_expanded}
 
 abbrev Use : Type 0
 Use = List ℕ × ℕ
@@ -176,4 +178,5 @@ mutual
 
   bare_terms : (ts : Terms) → expanded_terms [] ts ≡ ts
   bare_terms no_terms = refl
-  bare_terms (with_term minus t ts) = ap (λ (z : Tree). with_term minus z (expanded_terms [] ts)) (bare t) ∙ ap (λ (z : Terms). with_term minus t z) (bare_terms ts)
+  bare_terms (with_term minus t ts) = ap (λ (z : Tree). with_term minus z (expanded_terms [] ts)) (bare t) ∙ ap (λ (z : Terms). with_term minus t z)
+      (bare_terms ts)

@@ -1,9 +1,13 @@
 -- No question of a session has a name.
 use Rattle.std.proofs.Common.{◌≡◌, refl, ℕ, Bool, true, false, cond, ◌&&◌, List, [], ◌∷◌, ◌++◌, Option, Some, None}
 use Rattle.std.specs.Str.{bytes_eq}
-use Rattle.cg_query.specs.Tree.{Tree, Trees, Terms, Question, Statement, asks, defines, number, ups, nimber, switch, tiny, sides, negative, multiple, sum, game, octal, used, no_trees, with_tree, no_terms, with_term, value, compare, outcome, stops, mean, temp, thermo, proof, check}
-use Rattle.cg_syntax.specs.Naming.{AreClosed, AreClosedTerms, Bindings, IsClosed, IsClosedQuestion, are_too_large, bound_to, expanded, expanded_all, expanded_terms, first_unknown, or_use, question_asked, question_expanded, trees_of_question, unless_bound, uses, uses_all, uses_of, uses_terms}
-use Rattle.cg_syntax.specs.Session.{AreClosedLines, AreLines, IsClosedLine, IsLine, IsSession, Resolved, Asked_of, Too_large, after, bound_by, by_names, has_some, next, none, refused, resolved, stated}
+use Rattle.cg_query.specs.Tree.{Tree, Trees, Terms, Question, Statement, asks, defines, number, ups, nimber, switch, tiny, sides, negative, multiple, sum, game}
+use Rattle.cg_query.specs.Tree.{octal, used, no_trees, with_tree, no_terms, with_term, value, compare, outcome, stops, mean, temp, thermo, proof, check}
+use Rattle.cg_syntax.specs.Naming.{AreClosed, AreClosedTerms, Bindings, IsClosed, IsClosedQuestion, are_too_large, bound_to}
+use Rattle.cg_syntax.specs.Naming.{expanded, expanded_all, expanded_terms, first_unknown, or_use, question_asked}
+use Rattle.cg_syntax.specs.Naming.{question_expanded, trees_of_question, unless_bound, uses, uses_all, uses_of, uses_terms}
+use Rattle.cg_syntax.specs.Session.{AreClosedLines, AreLines, IsClosedLine, IsLine, IsSession, Resolved, Asked_of}
+use Rattle.cg_syntax.specs.Session.{Too_large, after, bound_by, by_names, has_some, next, none, refused, resolved, stated}
 use Rattle.cg_query.specs.declared.format.Format.{Format}
 
 abbrev Use : Type 0

@@ -7,7 +7,8 @@ use Rattle.cg_syntax.specs.SessionLines.{lines_of, onto_first}
 other : (b : ℕ) (xs : List ℕ) → b ≢ 10 → lines_of (b ∷ xs) ≡ onto_first b (lines_of xs)
 other b xs h = rw (ne_eqb b 10 h) refl
 
-pub lines_cut : (xs : List ℕ) (n : ℕ) → n < length xs → ((k : ℕ) → k < n → get_or xs k 0 ≢ 10) → get_or xs n 0 ≡ 10 → lines_of xs ≡ take n xs ∷ lines_of (drop (n + 1) xs)
+pub lines_cut : (xs : List ℕ) (n : ℕ) → n < length xs → ((k : ℕ) → k < n → get_or xs k 0 ≢ 10) → get_or xs n 0 ≡ 10 → lines_of xs ≡ take n xs ∷ lines_of
+    (drop (n + 1) xs)
 lines_cut [] n lt before at = absurd (omega arith)
 lines_cut (b ∷ xs) zero lt before at = rw (at) refl
 lines_cut (b ∷ xs) (suc n) lt before at =

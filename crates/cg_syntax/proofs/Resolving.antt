@@ -3,7 +3,8 @@ use Rattle.std.proofs.Common.{◌≡◌, refl, ap, sym, ◌∙◌, subst, ℕ, �
 use Rattle.std.specs.Prelude.{ltb, ◌||◌, ◌&&◌}
 use Rattle.std.proofs.lemmas.Bool.{lt-ltb, le-ltb, ltb-true, ltb-false}
 use Rattle.cg_query.specs.Tree.{Tree, Question, asks, defines, value, compare, outcome, stops, mean, temp, thermo, proof, check}
-use Rattle.cg_syntax.specs.Naming.{Bindings, IsClosedQuestion, are_too_large, expanded, first_unknown, is_some_high, question_expanded, sum_of_parts, trees_of_question, uses_of}
+use Rattle.cg_syntax.specs.Naming.{Bindings, IsClosedQuestion, are_too_large, expanded, first_unknown}
+use Rattle.cg_syntax.specs.Naming.{is_some_high, question_expanded, sum_of_parts, trees_of_question, uses_of}
 use Rattle.cg_syntax.specs.Session.{Resolved, Asked_of, Too_large, bound_by, by_names, has_some, resolved}
 use Rattle.cg_syntax.specs.Bound.{IsSizeOf, Measures, bindings_in, heights_of}
 use Rattle.cg_syntax.specs.Puts.{IsPut, PutsStatement}

@@ -1,11 +1,13 @@
 -- A session line after line.
-use Rattle.std.proofs.Common.{◌≡◌, ℕ, suc, ◌+◌, ◌<◌, arith, length, Bool, true, false, cond, List, [], ◌∷◌, ◌++◌, map, refl, ap, sym, subst, ◌∙◌, append-nil, Result, Ok, Err}
+use Rattle.std.proofs.Common.{◌≡◌, ℕ, suc, ◌+◌, ◌<◌, arith, length, Bool, true, false, cond, List, []}
+use Rattle.std.proofs.Common.{◌∷◌, ◌++◌, map, refl, ap, sym, subst, ◌∙◌, append-nil, Result, Ok, Err}
 use Rattle.std.specs.Prelude.{OnOk, ◌≤◌, ◌==◌, not}
 use Rattle.std.proofs.lemmas.List.{length-append, length-map}
 use Rattle.cg_query.specs.Tree.{Question, Statement, asks}
 use Rattle.cg_syntax.specs.Naming.{Bindings, question_asked}
 use Rattle.cg_grammar.specs.Lines.{Reads, ReadsIn, IsColumnIn}
-use Rattle.cg_syntax.specs.Session.{Resolved, Asked_of, Syntax_at, AreLines, IsLine, IsSession, after, answered_in, answered_lines, format_of, none, next, refused, resolved, stated}
+use Rattle.cg_syntax.specs.Session.{Resolved, Asked_of, Syntax_at, AreLines, IsLine, IsSession, after, answered_in}
+use Rattle.cg_syntax.specs.Session.{answered_lines, format_of, none, next, refused, resolved, stated}
 use Rattle.cg_syntax.specs.SessionLines.{lines_of, is_answered, answered_from, onto_first}
 use Rattle.cg_syntax.specs.Puts.{IsPut, Puts, PutsStatement}
 use Rattle.cg_syntax.specs.SessionViews.{line_of, resolved_of}

@@ -1,10 +1,12 @@
 -- The size of trees beside each other, and of a tree from its parts.
-use Rattle.std.proofs.Common.{◌≡◌, refl, ap, sym, ◌∙◌, subst, ℕ, zero, suc, ◌+◌, ◌<◌, min, max, arith, Bool, false, List, [], ◌∷◌, ◌++◌, map, length, get_or, take, drop, Option, Some, None, Result, Err, append_assoc, append-nil}
+use Rattle.std.proofs.Common.{◌≡◌, refl, ap, sym, ◌∙◌, subst, ℕ, zero, suc, ◌+◌, ◌<◌, min, max, arith, Bool, false, List, [], ◌∷◌}
+use Rattle.std.proofs.Common.{◌++◌, map, length, get_or, take, drop, Option, Some, None, Result, Err, append_assoc, append-nil}
 use Rattle.std.specs.Prelude.{◌||◌}
 use Rattle.std.proofs.lemmas.List.{map-append}
 use Rattle.cg_query.specs.Tree.{Tree, braces, negative, multiple, sum, trees_from, terms_from}
 use Rattle.cg_query.specs.Trees.{tree_of, trees_of, term_of, terms_of}
-use Rattle.cg_syntax.specs.Naming.{Bindings, bound_to, expanded, expanded_all, expanded_terms, first_unknown, parts, parts_all, parts_terms, sum_of_parts, unless_bound, uses, uses_all, uses_of, uses_terms}
+use Rattle.cg_syntax.specs.Naming.{Bindings, bound_to, expanded, expanded_all, expanded_terms, first_unknown, parts}
+use Rattle.cg_syntax.specs.Naming.{parts_all, parts_terms, sum_of_parts, unless_bound, uses, uses_all, uses_of, uses_terms}
 use Rattle.cg_syntax.specs.Session.{has_some}
 use Rattle.cg_query.specs.Heights.{height, heights, term_heights}
 use Rattle.cg_syntax.specs.Bound.{IsMeasured, IsSizeOf, Measures, heights_of}
@@ -212,7 +214,8 @@ term_sized bs es i e s t r below is b m n =
 split_inner : (es : List Term) (i : ℕ) (e : Term) → i < length es → e ≡ get_or es i e
     → inner es ≡ inner (take i es) ++ tree_of e.expr ∷ inner (drop (suc i) es)
 split_inner [] i e below is = absurd (omega arith)
-split_inner (f ∷ es) zero e below is = ap (λ (x : Term). (term_of x).1 ∷ inner es) (sym is) ∙ ap (λ (t : Bool × Tree). t.1 ∷ inner es) (term_tree e.minus e.expr)
+split_inner (f ∷ es) zero e below is = ap (λ (x : Term). (term_of x).1 ∷ inner es) (sym is) ∙ ap (λ (t : Bool × Tree). t.1 ∷ inner es) (term_tree e.minus
+    e.expr)
 split_inner (f ∷ es) (suc i) e below is = ap (λ (z : List Tree). (term_of f).1 ∷ z) (split_inner es i e (omega arith) is)
 
 pub term_fails : (bs : Bindings) (es : List Term) (ts : List (Bool × Tree)) (i : ℕ) (e : Term) (s : Size) (c : ℕ) → terms_of es ≡ ts → i < length es

@@ -1,7 +1,8 @@
 -- Names, what they are bound to, and expressions in which each use of a name is replaced.
 use Rattle.std.specs.Prelude.{ℕ, suc, ◌+◌, length, ltb, Bool, false, cond, ◌||◌, List, [], ◌∷◌, ◌++◌, Option, Some, None}
 use Rattle.std.specs.Str.{bytes_eq}
-use Rattle.cg_query.specs.Tree.{Tree, Trees, Terms, Question, Statement, number, ups, nimber, switch, tiny, sides, negative, multiple, sum, game, octal, used, no_trees, with_tree, no_terms, with_term, value, compare, outcome, stops, mean, temp, thermo, proof, check, asks, defines}
+use Rattle.cg_query.specs.Tree.{Tree, Trees, Terms, Question, Statement, number, ups, nimber, switch, tiny, sides, negative, multiple, sum, game, octal, used}
+use Rattle.cg_query.specs.Tree.{no_trees, with_tree, no_terms, with_term, value, compare, outcome, stops, mean, temp, thermo, proof, check, asks, defines}
 use Rattle.cg_query.specs.Heights.{QuestionIs, height}
 
 -- names with the expressions that they are bound to, the last binding first

@@ -1,4 +1,5 @@
-//! Laws of the grammar and of sessions, for all lines, questions and texts. A call puts its law into the caller's facts.
+//! Laws of the grammar and of sessions, for all lines, questions and texts. A call puts its law into the caller's
+//! facts.
 ghost use Rattle.std.specs.Prelude.{◌≡◌, ℕ, List, length};
 ghost use Rattle.cg_query.specs.Tree.{Question};
 ghost use Rattle.cg_grammar.specs.Lines.{Reads};
@@ -13,7 +14,8 @@ pub fn no_names()
     ensures { (line : List ℕ) (q : Question) → Reads line q → IsClosedQuestion q }
 {}
 
-/// A text says exactly one session, with as many lines as the text has that get an answer. No question in it has a name.
+/// A text says exactly one session, with as many lines as the text has that get an answer. No question in it has a
+/// name.
 pub fn one_session()
     ensures some { (text : List ℕ) → (rs : List (ℕ × Resolved)) × IsSession text rs }
     ensures unique { (text : List ℕ) (rs qs : List (ℕ × Resolved)) → IsSession text rs → IsSession text qs → rs ≡ qs }

@@ -25,8 +25,8 @@ const MOST_PARTS: u64 = 4096;
 /// How many nodes a path of an expanded expression may have.
 const MOST_LEVELS: u64 = 1024;
 
-/// What the lines of this text ask in this format, where the first of them has this number, unless more than so many get
-/// an answer. Before the first line no name is bound.
+/// What the lines of this text ask in this format, where the first of them has this number, unless more than so many
+/// get an answer. Before the first line no name is bound.
 pub fn read_lines(
     alloc: Global,
     format: Format,

@@ -20,8 +20,8 @@ pub fn first_line(text: &[u8]) -> (&[u8], &[u8])
     }
 }
 
-/// How many bytes stand before the first LF, or in all. This is the one place that searches, so that the search is inlined
-/// here alone.
+/// How many bytes stand before the first LF, or in all. This is the one place that searches, so that the search is
+/// inlined here alone.
 #[inline(never)]
 fn line_length(text: &[u8]) -> usize
     ensures within { result ≤ length text.now }

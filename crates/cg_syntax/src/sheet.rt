@@ -45,8 +45,9 @@ fn has_name(bound: &[Bound], place: usize, name: &[u8]) -> bool
     }
 }
 
-/// The lines so far with what they ask, and the names that they bind, one behind the other. An expression that a name is
-/// bound to stands in its line alone. Contracts see what names are bound to by `bindings_in`, the last binding first.
+/// The lines so far with what they ask, and the names that they bind, one behind the other. An expression that a name
+/// is bound to stands in its line alone. Contracts see what names are bound to by `bindings_in`, the last binding
+/// first.
 #[derive(Drop)]
 pub struct Sheet {
     lines: Vec<SessionLine>,

@@ -68,7 +68,8 @@ fn leaf() -> Size
     }
 }
 
-/// The size of an expression whose names are bound by these bindings, or the column of its first use of an unknown name.
+/// The size of an expression whose names are bound by these bindings, or the column of its first use of an unknown
+/// name.
 #[cycle(measured)]
 pub fn measured(sheet: &Sheet, expr: &Expr) -> Result<Size, u64>
     requires { IsSound sheet.now }

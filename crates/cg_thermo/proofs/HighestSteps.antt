@@ -1,5 +1,6 @@
 -- The greatest of the sides of some games, one after the other.
-use Rattle.std.proofs.Common.{◌≡◌, refl, ℕ, zero, suc, ◌+◌, ◌<◌, ◌≤◌, arith, ap, sym, ◌∙◌, Bool, true, false, All, if◌then◌else◌, List, [], ◌∷◌, ◌++◌, map, take, get_or, length, ℤ, neg_ℤ}
+use Rattle.std.proofs.Common.{◌≡◌, refl, ℕ, zero, suc, ◌+◌, ◌<◌, ◌≤◌, arith, ap, sym, ◌∙◌, Bool, true, false}
+use Rattle.std.proofs.Common.{All, if◌then◌else◌, List, [], ◌∷◌, ◌++◌, map, take, get_or, length, ℤ, neg_ℤ}
 use Rattle.std.proofs.lemmas.Int.{ints}
 use Rattle.std.proofs.lemmas.List.{get_or_default}
 use Rattle.std.specs.Int.{int_max}

@@ -1,5 +1,6 @@
 -- The line of corners at one scale and at another.
-use Rattle.std.proofs.Common.{◌≡◌, refl, ℕ, ◌+◌, ◌≤◌, ◌^◌, arith, zero, suc, ap, sym, ◌∙◌, subst, Bool, Option, Some, None, List, [], ◌∷◌, map, unsigned_abs, ℤ, pos, ◌+ℤ◌, ◌<ℤ◌}
+use Rattle.std.proofs.Common.{◌≡◌, refl, ℕ, ◌+◌, ◌≤◌, ◌^◌, arith, zero, suc, ap, sym, ◌∙◌, subst, Bool}
+use Rattle.std.proofs.Common.{Option, Some, None, List, [], ◌∷◌, map, unsigned_abs, ℤ, pos, ◌+ℤ◌, ◌<ℤ◌}
 use Rattle.std.specs.Prelude.{IfSome, IfNone}
 use Rattle.cg_dyadic.specs.Number.{Number, exp_of, ratio}
 use Rattle.cg_dyadic.specs.Units.{units}

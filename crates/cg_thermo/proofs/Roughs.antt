@@ -1,5 +1,6 @@
 -- Scaffolds that pass each other between two whole units meet at a whole unit of the next finer scale.
-use Rattle.std.proofs.Common.{◌≡◌, refl, ℕ, ◌+◌, ◌-◌, ◌<◌, arith, suc, ap, sym, ◌∙◌, Bool, true, false, Result, Ok, Err, ℤ, pos, neg_ℤ, ◌-ℤ◌, ◌≤ℤ◌, unsigned_abs}
+use Rattle.std.proofs.Common.{◌≡◌, refl, ℕ, ◌+◌, ◌-◌, ◌<◌, arith, suc, ap, sym, ◌∙◌, Bool, true}
+use Rattle.std.proofs.Common.{false, Result, Ok, Err, ℤ, pos, neg_ℤ, ◌-ℤ◌, ◌≤ℤ◌, unsigned_abs}
 use Rattle.std.proofs.lemmas.Int.{ints}
 use Rattle.std.specs.Prelude.{IfOk, if◌then◌else◌}
 use Rattle.cg_dyadic.specs.Number.{InRange, Number, between, exp_of, half, is_even, ratio}
@@ -34,7 +35,8 @@ use Rattle.cg_thermo.proofs.Upward.{thermal-none}
 exp-odd : (n : ℕ) (k : ℕ) → exp_of (ratio (pos (suc (twice n))) (suc k)) ≡ k + 1
 exp-odd n k = by (is_even (pos (suc (twice n)))) refl
   where
-    by : (b : Bool) → is_even (pos (suc (twice n))) ≡ b → exp_of (if b then ratio (half (pos (suc (twice n)))) k else between (half (pos (suc (twice n)))) k) ≡ k + 1
+    by : (b : Bool) → is_even (pos (suc (twice n))) ≡ b → exp_of (if b then ratio (half (pos (suc (twice n)))) k else between (half (pos (suc (twice n)))) k)
+        ≡ k + 1
     by true e = absurd (let h = even_half (pos (suc (twice n))) e in let t = twice_pos n in omega (arith, ints))
     by false e = refl
 
@@ -100,7 +102,8 @@ joined-walls_paired g p q (Err e) k j = tt
 pub abs_bounds : (n : ℤ) → unsigned_abs n < 21267647932558653966460912964485513216 → (neg_ℤ BOUND ≤ℤ n) × (n ≤ℤ BOUND)
 abs_bounds n h = let a = abs_tells n in (omega (arith, ints), omega (arith, ints))
 
-pub bounds_of : (x : Number) (u : ℤ) → u ≡ units places x → InRange x → (neg_ℤ BOUND ≤ℤ u) × (u ≤ℤ BOUND) × (neg_ℤ BOUND ≤ℤ (pos 0 -ℤ u)) × ((pos 0 -ℤ u) ≤ℤ BOUND)
+pub bounds_of : (x : Number) (u : ℤ) → u ≡ units places x → InRange x → (neg_ℤ BOUND ≤ℤ u) × (u ≤ℤ BOUND) × (neg_ℤ BOUND ≤ℤ (pos 0 -ℤ u))
+    × ((pos 0 -ℤ u) ≤ℤ BOUND)
 bounds_of x u e r =
     let a = abs_bounds u (let i = units-in_range x r in let f = ap unsigned_abs e in omega arith) in
     let b = a.0 in let c = a.1 in

@@ -1,5 +1,6 @@
 -- The wall_pairs of the positions that were walked, and the error that says that a temperature needs more places.
-use Rattle.std.proofs.Common.{◌≡◌, ◌⊎◌, refl, ℕ, zero, suc, ◌+◌, ◌<◌, ◌≤◌, arith, inl, inr, ap, sym, ◌∙◌, subst, false, List, [], ◌∷◌, ◌++◌, get_or, length, Result, Err}
+use Rattle.std.proofs.Common.{◌≡◌, ◌⊎◌, refl, ℕ, zero, suc, ◌+◌, ◌<◌, ◌≤◌, arith, inl, inr, ap, sym}
+use Rattle.std.proofs.Common.{◌∙◌, subst, false, List, [], ◌∷◌, ◌++◌, get_or, length, Result, Err}
 use Rattle.std.proofs.Math.ListN.{get_or-append}
 use Rattle.std.proofs.Math.Seq.{get_or-append_seam}
 use Rattle.std.proofs.lemmas.Bool.{cases_Bool}

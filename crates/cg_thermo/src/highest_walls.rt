@@ -27,8 +27,8 @@ fn side_of(wall_pairs: &[WallPair], place: usize, right: bool) -> &Rise
     }
 }
 
-/// The greatest of the right walls of the games at the places, or of the negatives of their left walls. The only error is
-/// want of memory.
+/// The greatest of the right walls of the games at the places, or of the negatives of their left walls. The only error
+/// is want of memory.
 #[inline(always)]
 pub(crate) fn highest_wall(
     alloc: Global,

@@ -8,8 +8,8 @@ use crate::wall_pair::WallPair;
 use cg_walls::{Rise, meeting, turned};
 use std::alloc::Global;
 
-/// The wall_pair of a game, from the greatest right wall of the Left options and the greatest negative of a left wall of the
-/// Right options. `Range` comes exactly where the scaffolds pass each other between two whole units.
+/// The wall_pair of a game, from the greatest right wall of the Left options and the greatest negative of a left wall
+/// of the Right options. `Range` comes exactly where the scaffolds pass each other between two whole units.
 pub(crate) fn joined(alloc: Global, p: &Rise, q: &Rise) -> Result<WallPair, ThermoFault>
     requires p { IsWall p.now }
     requires q { IsWall q.now }

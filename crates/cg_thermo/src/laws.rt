@@ -25,8 +25,8 @@ pub fn lines()
         → OnLine (marks (corners (λ u. (walls d s u g).right) end)) (pos t) (walls d s t g).right }
 {}
 
-/// What is on the line of the corners of a thermograph is the wall: at every temperature of u units, and every scale of at
-/// least the height at which both are whole.
+/// What is on the line of the corners of a thermograph is the wall: at every temperature of u units, and every scale of
+/// at least the height at which both are whole.
 pub fn readings()
     ensures left { (d : Decides) (g : Game) (w : drawn.Walls) (s u : ℕ) (t x : Number) → IsThermograph g w
         → height g ≤ s → exp_of t ≤ s → exp_of x ≤ s → units s t ≡ pos u → IsOnLine w.left t x → units s x ≡ (walls d s u g).left }
@@ -41,8 +41,9 @@ pub fn thermographs()
     ensures equal { (g h : Game) (w : drawn.Walls) → Equal g h → IsThermograph g w → IsThermograph h w }
 {}
 
-/// No mean and no temperature needs more binary places than the height of its game; the height of a game whose numbers are
-/// in range is at most 40 more than its depth. So no position of such a game of a depth of at most 20 needs more than 60.
+/// No mean and no temperature needs more binary places than the height of its game; the height of a game whose numbers
+/// are in range is at most 40 more than its depth. So no position of such a game of a depth of at most 20 needs more
+/// than 60.
 pub fn heights()
     ensures thermal { (g : Game) (mean temp : Number) → IsThermal g mean temp
         → (exp_of mean ≤ height g) × (exp_of temp ≤ height g) }

@@ -1,7 +1,7 @@
 //! Outcomes, stops and thermographs of the games of handles, over any store.
 //!
-//! The walls of a game are found from those of its options, each position once. Inside, values and temperatures are whole
-//! numbers of units of 1/2^60.
+//! The walls of a game are found from those of its options, each position once. Inside, values and temperatures are
+//! whole numbers of units of 1/2^60.
 #![tactic(auto)]
 
 mod corners;

@@ -58,8 +58,8 @@ fn wall_pair_at<B: BoardForms, S: CellStore<GameFacts<B>>>(
     }
 }
 
-/// The wall_pairs of the positions. `Range` comes exactly where the temperature of some position needs more than 60 binary
-/// places.
+/// The wall_pairs of the positions. `Range` comes exactly where the temperature of some position needs more than 60
+/// binary places.
 pub(crate) fn wall_pairs_of<B: BoardForms, S: CellStore<GameFacts<B>>>(
     alloc: Global,
     work: &Work<B, S>,

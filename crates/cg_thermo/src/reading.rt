@@ -73,8 +73,8 @@ fn line_of(items: &[Corner], t: Wide) -> Option<Wide>
     bounded(value)
 }
 
-/// The value at the temperature t of the wall with these corners, of which there must be one. None comes exactly where it
-/// is no wall value.
+/// The value at the temperature t of the wall with these corners, of which there must be one. None comes exactly where
+/// it is no wall value.
 pub fn wall_at(corners: &Corners, t: Wide) -> Option<Wide>
     requires { ¬ (corners.now ≡ []) }
     ensures some { IfSome result (λ x. IsOnLine corners.now t x) }

@@ -1,7 +1,7 @@
 //! The stops of a game.
 //!
-//! Its cuts of the numbers have them: the numbers that are at most the game end at its Right stop, and those that are at least the
-//! game begin at its Left stop.
+//! Its cuts of the numbers have them: the numbers that are at most the game end at its Right stop, and those that are
+//! at least the game begin at its Left stop.
 ghost use Rattle.std.specs.Prelude.{IfOk};
 ghost use Rattle.cg_canon.specs.Works.{work_state};
 ghost use Rattle.cg_cells.specs.Store.{Spends};

@@ -105,9 +105,9 @@ fn each_position<B: BoardForms, S: CellStore<GameFacts<B>>>(
     }
 }
 
-/// The thermograph of the game (Siegel, Combinatorial Game Theory (2013), II.5). `Range` comes exactly where the mean or
-/// the temperature of some position needs more than 60 binary places, and never for a game of a depth of at most 20. The other
-/// error is want of memory.
+/// The thermograph of the game (Siegel, Combinatorial Game Theory (2013), II.5). `Range` comes exactly where the mean
+/// or the temperature of some position needs more than 60 binary places, and never for a game of a depth of at most 20.
+/// The other error is want of memory.
 pub fn thermograph<B: BoardForms, S: CellStore<GameFacts<B>>>(
     alloc: Global,
     work: &mut Work<B, S>,

@@ -1,5 +1,6 @@
 -- The parts of boards joined, one board after another.
-use Rattle.std.proofs.Common.{◌≡◌, refl, ℕ, zero, suc, ◌+◌, ◌≤◌, ◌<◌, true, arith, ap, sym, ◌∙◌, subst, List, [], ◌∷◌, ◌++◌, append_assoc, drop, get_or, length, map, take, Result, Ok, Err}
+use Rattle.std.proofs.Common.{◌≡◌, refl, ℕ, zero, suc, ◌+◌, ◌≤◌, ◌<◌, true, arith, ap, sym, ◌∙◌, subst, List}
+use Rattle.std.proofs.Common.{[], ◌∷◌, ◌++◌, append_assoc, drop, get_or, length, map, take, Result, Ok, Err}
 use Rattle.std.specs.Prelude.{IfOk, slice_index}
 use Rattle.std.specs.List.{flat_map}
 use Rattle.std.proofs.lemmas.Grind.{flat_map-append}

@@ -13,10 +13,10 @@ use std::alloc::Global;
 
 /// What adds the games of two handles.
 pub trait Adder {
-    /// The handle of the canonical form of a + b. It makes the items of f + k for each position f of a, in the outer loop, and
-    /// each position k of b, in the inner loop. Such an item costs 1 more than the form. `Positions` comes exactly where there
-    /// are more such pairs than the limit. A refusal is that of the first item that isn't made; what the items before it cost
-    /// is spent.
+    /// The handle of the canonical form of a + b. It makes the items of f + k for each position f of a, in the outer
+    /// loop, and each position k of b, in the inner loop. Such an item costs 1 more than the form. `Positions` comes
+    /// exactly where there are more such pairs than the limit. A refusal is that of the first item that isn't made;
+    /// what the items before it cost is spent.
     fn add<B: BoardForms, S: CellStore<GameFacts<B>>>(
         &self,
         alloc: Global,

@@ -40,8 +40,8 @@ fn chunks<B: BoardForms, S: CellStore<GameFacts<B>>>(store: &mut S, contents: &[
     first
 }
 
-/// The cell of the board of the game with this number, of so many rows and columns, by the contents of its cells. It spends
-/// a claim more than there are contents.
+/// The cell of the board of the game with this number, of so many rows and columns, by the contents of its cells. It
+/// spends a claim more than there are contents.
 pub(crate) fn board_cell<B: BoardForms, S: CellStore<GameFacts<B>>>(
     store: &mut S,
     number: u8,
@@ -63,7 +63,8 @@ pub(crate) fn board_cell<B: BoardForms, S: CellStore<GameFacts<B>>>(
     store.claim(key)
 }
 
-/// Tells the store that the chunks of the contents may be claimed soon, and answers the id that the first would most likely have.
+/// Tells the store that the chunks of the contents may be claimed soon, and answers the id that the first would most
+/// likely have.
 fn prefetch_chunks<B: BoardForms, S: CellStore<GameFacts<B>>>(
     store: &mut S,
     contents: &[u32],
@@ -77,8 +78,8 @@ fn prefetch_chunks<B: BoardForms, S: CellStore<GameFacts<B>>>(
     first
 }
 
-/// Tells the store that the cell of the board, by the contents of its cells, and the value that is noted on it may be asked for
-/// soon.
+/// Tells the store that the cell of the board, by the contents of its cells, and the value that is noted on it may be
+/// asked for soon.
 pub(crate) fn prefetch_board<B: BoardForms, S: CellStore<GameFacts<B>>>(
     store: &mut S,
     number: u8,

@@ -94,8 +94,9 @@ fn cell_of<B: BoardForms, S: CellStore<GameFacts<B>>, R: Rules>(
     )
 }
 
-/// Makes the item of the value of the board of a numbered game. The value is looked for in the notes where the own spare
-/// covers the claims that this takes, above what it was at the start; the value is noted then or after its item was charged.
+/// Makes the item of the value of the board of a numbered game. The value is looked for in the notes where the own
+/// spare covers the claims that this takes, above what it was at the start; the value is noted then or after its item
+/// was charged.
 fn numbered_item<B: BoardForms, S: CellStore<GameFacts<B>>, R: Rules>(
     alloc: Global,
     work: &mut Work<B, S>,

@@ -39,8 +39,8 @@ fn add_all<B: BoardForms, S: CellStore<GameFacts<B>>, A: Adder>(
     Ok(sum)
 }
 
-/// Adds up the games of the handles at the places of a board's parts. Of no part it makes the number 0, and of one it makes
-/// nothing.
+/// Adds up the games of the handles at the places of a board's parts. Of no part it makes the number 0, and of one it
+/// makes nothing.
 #[inline(always)]
 pub(crate) fn joined<B: BoardForms, S: CellStore<GameFacts<B>>, A: Adder>(
     alloc: Global,

@@ -7,7 +7,8 @@ use cg_canon::ValueFault;
 use cg_moves::{Board, Pieces, PositionGraph, ReachFault, Rules, open, open_pieces};
 use std::alloc::Global;
 
-/// The pieces that play can come to where the rules cut, and the boards where they don't, unless there are more than the limit.
+/// The pieces that play can come to where the rules cut, and the boards where they don't, unless there are more than
+/// the limit.
 fn opened_parts<R: Rules>(
     alloc: Global,
     rules: &R,

@@ -43,9 +43,9 @@ fn all_contents(alloc: Global, boards: &[Board]) -> Result<Vec<u32>, AllocError>
     Ok(all)
 }
 
-/// Tells the store on which cells the values of these boards of the game with this number may be noted; those of the number 0 are
-/// noted nowhere. All contents are written before the first cell is prefetched, so that the store's loads follow each other closely.
-/// Where there is no memory for them, nothing is prefetched.
+/// Tells the store on which cells the values of these boards of the game with this number may be noted; those of the
+/// number 0 are noted nowhere. All contents are written before the first cell is prefetched, so that the store's loads
+/// follow each other closely. Where there is no memory for them, nothing is prefetched.
 pub(crate) fn prefetch_boards<B: BoardForms, S: CellStore<GameFacts<B>>>(
     alloc: Global,
     store: &mut S,

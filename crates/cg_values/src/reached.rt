@@ -20,18 +20,20 @@ use std::alloc::Global;
 
 /// The handle of the canonical form of the tree of all moves from the start, which must be a board of the game.
 ///
-/// Where the rules don't cut, it makes the item of the canonical form of the tree of each board that play can come to, in their
-/// order; such an item costs 8 more than the form. Where they cut, it does so for each piece that play can come to in pieces;
-/// before each it joins the pieces of the boards that moves on it lead to, and in the end those of the start. To join pieces is
-/// to add them up with the adder: of no piece it makes the number 0, and of one it makes nothing.
+/// Where the rules don't cut, it makes the item of the canonical form of the tree of each board that play can come to,
+/// in their order; such an item costs 8 more than the form. Where they cut, it does so for each piece that play can
+/// come to in pieces; before each it joins the pieces of the boards that moves on it lead to, and in the end those of
+/// the start. To join pieces is to add them up with the adder: of no piece it makes the number 0, and of one it makes
+/// nothing.
 ///
-/// `Positions`, `Range`, `Depth` and `Full` come exactly where the first item that isn't made is refused so; what the items
-/// before it cost is spent. Where there are more such boards or pieces than the limit, the one item is refused by `Positions`.
+/// `Positions`, `Range`, `Depth` and `Full` come exactly where the first item that isn't made is refused so; what the
+/// items before it cost is spent. Where there are more such boards or pieces than the limit, the one item is refused by
+/// `Positions`.
 ///
-/// Values are noted on the cells of their boards, unless the game's number is 0: in the end the cell of each board, or piece,
-/// that play can come to is known, and a value is noted there. Where an item is refused, that holds of each board, or piece,
-/// whose own item was charged before. So the rules must be such that the note on a board's cell is
-/// the value of that board. A value that is found there isn't made again, but is charged all the same.
+/// Values are noted on the cells of their boards, unless the game's number is 0: in the end the cell of each board, or
+/// piece, that play can come to is known, and a value is noted there. Where an item is refused, that holds of each
+/// board, or piece, whose own item was charged before. So the rules must be such that the note on a board's cell is the
+/// value of that board. A value that is found there isn't made again, but is charged all the same.
 pub fn value_of<B: BoardForms, S: CellStore<GameFacts<B>>, R: Rules, A: Adder>(
     alloc: Global,
     work: &mut Work<B, S>,

@@ -24,8 +24,8 @@ use cg_nodes::{BoardForms, GameFacts, Handle};
 use smallvec::SmallVec;
 use std::alloc::Global;
 
-/// A part that play can come to; what comes next after it, as [`PositionGraph`] has it; and the handles of the values of the parts before
-/// it.
+/// A part that play can come to; what comes next after it, as [`PositionGraph`] has it; and the handles of the values
+/// of the parts before it.
 #[derive(Clone, Copy)]
 struct Part<'a> {
     board: &'a Board,
@@ -74,7 +74,8 @@ fn part_value<B: BoardForms, S: CellStore<GameFacts<B>>, R: Rules, A: Adder>(
     board_item(alloc, work, rules, part.board, &options, start)
 }
 
-/// Makes the items of the parts, in order, and gives the handles of their values. The boards ahead are prefetched before.
+/// Makes the items of the parts, in order, and gives the handles of their values. The boards ahead are prefetched
+/// before.
 pub(crate) fn part_values<B: BoardForms, S: CellStore<GameFacts<B>>, R: Rules, A: Adder>(
     alloc: Global,
     work: &mut Work<B, S>,

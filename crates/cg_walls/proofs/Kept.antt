@@ -1,5 +1,6 @@
 -- A scaffold that is kept from a time on.
-use Rattle.std.proofs.Common.{◌≡◌, refl, ℕ, ◌<◌, ◌≤◌, arith, zero, suc, ap, sym, ◌∙◌, Bool, true, false, not, ◌&&◌, cond, List, [], ◌∷◌, ◌++◌, length, drop, inl, inr, min, ℤ, pos, neg_ℤ, ◌+ℤ◌, ◌-ℤ◌, ◌≤ℤ◌}
+use Rattle.std.proofs.Common.{◌≡◌, refl, ℕ, ◌<◌, ◌≤◌, arith, zero, suc, ap, sym, ◌∙◌, Bool, true, false, not, ◌&&◌}
+use Rattle.std.proofs.Common.{cond, List, [], ◌∷◌, ◌++◌, length, drop, inl, inr, min, ℤ, pos, neg_ℤ, ◌+ℤ◌, ◌-ℤ◌, ◌≤ℤ◌}
 use Rattle.std.proofs.lemmas.Int.{ints}
 use Rattle.std.specs.Prelude.{nat_lt}
 use Rattle.cg_walls.specs.declared.TheConstants.{BOUND, END}
@@ -92,7 +93,8 @@ turned-step rise end u = elim (le_or_lt_n end u) [
   | inr h ↦ (let e : min (suc u) end ≡ suc u = omega arith in
       let f : min u end ≡ u = omega arith in
       let v = value-suc rise u in
-      let s : step (not (rises_of rise u) && nat_lt u end) ≡ step (not (rises_of rise u)) = ap step (ap (λ z. not (rises_of rise u) && z) (lt_true u end h) ∙ whole (not (rises_of rise u))) in
+      let s : step (not (rises_of rise u) && nat_lt u end) ≡ step (not (rises_of rise u)) = ap step (ap (λ z. not (rises_of rise u) && z) (lt_true u end h)
+      ∙ whole (not (rises_of rise u))) in
       let o = one_less (rises_of rise u) in
       let a = ap (λ z. pos z -ℤ value_at rise z) e in
       let b = ap (λ z. pos z -ℤ value_at rise z) f in

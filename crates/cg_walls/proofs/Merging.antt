@@ -1,5 +1,6 @@
 -- The greater of two walls, step by step.
-use Rattle.std.proofs.Common.{◌≡◌, refl, ℕ, ◌+◌, ◌-◌, ◌<◌, ◌≤◌, arith, suc, ap, sym, ◌∙◌, Bool, true, false, not, ◌||◌, ◌&&◌, cond, List, [], ◌∷◌, ◌++◌, inl, inr, ◌⊎◌, unsigned_abs, ℤ, pos, neg_ℤ, ◌+ℤ◌, ◌-ℤ◌, ◌≤ℤ◌, ◌<ℤ◌}
+use Rattle.std.proofs.Common.{◌≡◌, refl, ℕ, ◌+◌, ◌-◌, ◌<◌, ◌≤◌, arith, suc, ap, sym, ◌∙◌, Bool, true, false, not, ◌||◌, ◌&&◌}
+use Rattle.std.proofs.Common.{cond, List, [], ◌∷◌, ◌++◌, inl, inr, ◌⊎◌, unsigned_abs, ℤ, pos, neg_ℤ, ◌+ℤ◌, ◌-ℤ◌, ◌≤ℤ◌, ◌<ℤ◌}
 use Rattle.std.proofs.lemmas.Int.{ints}
 use lib.Signed.{le_z, lt_z}
 use mathlib.Core.Bool.{beq}
@@ -9,7 +10,8 @@ use Rattle.cg_walls.specs.declared.place.Place.{Place}
 use Rattle.cg_walls.specs.declared.rise.Rise.{Rise}
 use Rattle.cg_walls.specs.Places.{At, catch_up, event, leads, next_of}
 use Rattle.cg_walls.specs.Rises.{Climbs, IsWall, rises_at, rises_of, step, steps, value_at}
-use Rattle.cg_walls.proofs.Rising.{climbed_is, climbs-more, climbs-wider, le_or_lt_n, near, rises-after, rises-before, steady, true_or_false, value-suc, value-zero}
+use Rattle.cg_walls.proofs.Rising.{climbed_is, climbs-more, climbs-wider, le_or_lt_n, near, rises-after}
+use Rattle.cg_walls.proofs.Rising.{rises-before, steady, true_or_false, value-suc, value-zero}
 use Rattle.cg_walls.proofs.Walking.{at-last, at-steady, next-after}
 
 -- ---- the greater

@@ -1,5 +1,5 @@
-//! Walls as functions of a time 0, 1, 2, .. that in each unit rise by 1 or stay where they are: the greater of two, where
-//! two meet, and the points at which one bends; and the line through points.
+//! Walls as functions of a time 0, 1, 2, .. that in each unit rise by 1 or stay where they are: the greater of two,
+//! where two meet, and the points at which one bends; and the line through points.
 #![tactic(auto)]
 
 mod bends;
@@ -22,6 +22,6 @@ pub use worth::value;
 /// the sum of two such values is still a word.
 pub const BOUND: i128 = 1 << 124;
 
-/// All turns come before this time: two scaffolds over walls within the bound have met once t is the bound, which is half
-/// of this, and twice this is still a word.
+/// All turns come before this time: two scaffolds over walls within the bound have met once t is the bound, which is
+/// half of this, and twice this is still a word.
 pub const END: u128 = 1 << 125;

@@ -1,5 +1,6 @@
 //! Where two scaffolds meet.
-ghost use Rattle.std.specs.Prelude.{◌≡◌, ℕ, ◌≤◌, ◌<◌, ◌+◌, ◌-◌, ◌*◌, ◌%◌, ◌≤ℤ◌, ◌<ℤ◌, ◌+ℤ◌, ◌-ℤ◌, pos, negsuc, IfSome, IfNone};
+ghost use Rattle.std.specs.Prelude.{◌≡◌, ℕ, ◌≤◌, ◌<◌, ◌+◌, ◌-◌, ◌*◌, ◌%◌, ◌≤ℤ◌};
+ghost use Rattle.std.specs.Prelude.{◌<ℤ◌, ◌+ℤ◌, ◌-ℤ◌, pos, negsuc, IfSome, IfNone};
 ghost use Rattle.cg_walls.specs.Places.{At, Within, fall};
 ghost use Rattle.cg_walls.specs.Rises.{IsWall, gap};
 
@@ -47,8 +48,8 @@ fn closes(now: u128, gap: u128, falls: u128) -> Option<u128>
     }
 }
 
-/// The time at which the two, both less t, come to be together 0: the scaffolds over them meet there. None comes exactly
-/// where they pass each other between two whole times.
+/// The time at which the two, both less t, come to be together 0: the scaffolds over them meet there. None comes
+/// exactly where they pass each other between two whole times.
 pub fn meeting(a: &Rise, b: &Rise) -> Option<u128>
     requires a { IsWall a.now }
     requires b { IsWall b.now }

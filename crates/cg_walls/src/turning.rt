@@ -6,8 +6,8 @@ ghost use Rattle.cg_walls.specs.Rises.{IsWall, turned, value_at};
 use crate::{END, Rise};
 use std::alloc::{AllocError, Global};
 
-/// At each time t up to the end, t less the value of the wall; from the end on, what that is at the end. The only error is
-/// want of memory.
+/// At each time t up to the end, t less the value of the wall; from the end on, what that is at the end. The only error
+/// is want of memory.
 #[inline(always)]
 pub fn turned(alloc: Global, rise: &Rise, end: u128) -> Result<Rise, AllocError>
     requires wall { IsWall rise.now }

@@ -12,7 +12,8 @@ use Rattle.cg_grammar.specs.Values.{Last, run_side}
 use Rattle.cg_query.specs.declared.format.Format.TheVariants as formats
 use Rattle.cg_grammar.specs.Written.{AreWritable, IsAskable, IsWritable}
 use Rattle.cg_grammar.proofs.Whole.{as_asked}
-use Rattle.cg_writer.proofs.WritableTerms.{W, found_at, printable_is, switch_writable, enclosed_of, tiny_writable, board_writable, octal_writable, AllW, expr_writable}
+use Rattle.cg_writer.proofs.WritableTerms.{W, found_at, printable_is, switch_writable, enclosed_of}
+use Rattle.cg_writer.proofs.WritableTerms.{tiny_writable, board_writable, octal_writable, AllW, expr_writable}
 
 -- ---- braces
 
@@ -132,7 +133,8 @@ unfolding special
 special_writable zero i e text m =
     alone (Or grammar.switch_piece (Or grammar.tiny_piece (Or grammar.board grammar.octal_piece))) plain_writable i e text m
 special_writable (suc k) i e text m =
-    alone (Or grammar.switch_piece (Or grammar.tiny_piece (Or (grammar.braces (grammar.side (Inner k))) (Or (grammar.enclosed (Inner k)) (Or grammar.board grammar.octal_piece)))))
+    alone (Or grammar.switch_piece (Or grammar.tiny_piece (Or (grammar.braces (grammar.side (Inner k))) (Or (grammar.enclosed (Inner k)) (Or grammar.board
+    grammar.octal_piece)))))
     (bracket_writable k (special_writable k)) i e text m
 
 -- what an expression of the grammar reads as can be written

@@ -12,8 +12,11 @@ use Rattle.std.proofs.lemmas.Str.Ascii.{IsAscii-from_all, IsAscii-nil}
 use Rattle.cg_reading.specs.Bytes.{Class, has}
 use Rattle.cg_reading.proofs.Sets.{inside, inside_has}
 use Rattle.cg_grammar.specs.Grammar.{printable}
-use Rattle.cg_query.specs.Tree.{Question, Tree, Trees, Terms, check, compare, game, mean, multiple, negative, nimber, no_terms, no_trees, number, octal, used, outcome, proof, sides, stops, sum, switch, temp, thermo, tiny, ups, value, with_term, with_tree}
-use Rattle.cg_grammar.specs.Written.{AreFurther, AreTerms, AreTexts, AreWritable, IsAskable, IsPrintable, IsSum, IsWritable, asked_text, enclosed_text, fraction_text, is_braces, kind_text, more_terms, more_texts, quoted, terms_text, text_of, texts_of, texts_of_game, two_quoted, ups_text}
+use Rattle.cg_query.specs.Tree.{Question, Tree, Trees, Terms, check, compare, game, mean, multiple, negative, nimber, no_terms, no_trees, number}
+use Rattle.cg_query.specs.Tree.{octal, used, outcome, proof, sides, stops, sum, switch, temp, thermo, tiny, ups, value, with_term, with_tree}
+use Rattle.cg_grammar.specs.Written.{AreFurther, AreTerms, AreTexts, AreWritable, IsAskable, IsPrintable, IsSum, IsWritable}
+use Rattle.cg_grammar.specs.Written.{asked_text, enclosed_text, fraction_text, is_braces, kind_text, more_terms, more_texts}
+use Rattle.cg_grammar.specs.Written.{quoted, terms_text, text_of, texts_of, texts_of_game, two_quoted, ups_text}
 use Rattle.cg_query.specs.declared.kind.GameKind.{GameKind}
 use Rattle.cg_query.specs.declared.kind.GameKind.TheVariants.{Domineering, Clobber, Amazons, Toads, Strip, Hackenbush, Col, Snort}
 

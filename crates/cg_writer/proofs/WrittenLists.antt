@@ -6,7 +6,8 @@ use Rattle.cg_grammar.specs.Found.{Found}
 use Rattle.cg_grammar.specs.Grammar as grammar
 use Rattle.cg_grammar.specs.Grammar.{comma, special}
 use Rattle.cg_query.specs.declared.format.Format.TheVariants as formats
-use Rattle.cg_query.specs.Tree.{Tree, Trees, game, octal, used, multiple, negative, nimber, no_trees, number, sides, sum, switch, tiny, trees_from, ups, with_tree}
+use Rattle.cg_query.specs.Tree.{Tree, Trees, game, octal, used, multiple, negative, nimber, no_trees}
+use Rattle.cg_query.specs.Tree.{number, sides, sum, switch, tiny, trees_from, ups, with_tree}
 use Rattle.cg_grammar.specs.Values.{In_none, clean}
 use Rattle.cg_grammar.specs.Written.{enclosed_text, inner_height, is_braces, more_texts, text_of, texts_of}
 use Rattle.cg_query.specs.Heights.{height, heights}

@@ -1,18 +1,21 @@
 -- What is written, step by step: an expression by its form, and lists one entry after the other.
-use Rattle.std.proofs.Common.{◌≡◌, refl, ap, sym, ◌∙◌, ℕ, suc, ◌+◌, ◌<◌, List, [], ◌∷◌, ◌++◌, append-nil, append_assoc, length, get_or, take, Bool, cond, Result, Ok, Err, arith}
+use Rattle.std.proofs.Common.{◌≡◌, refl, ap, sym, ◌∙◌, ℕ, suc, ◌+◌, ◌<◌, List, [], ◌∷◌, ◌++◌, append-nil}
+use Rattle.std.proofs.Common.{append_assoc, length, get_or, take, Bool, cond, Result, Ok, Err, arith}
 use Rattle.std.specs.Prelude.{OnOk, codes, decimal, replicate}
 use Rattle.std.specs.Global.{Box}
 use Rattle.std.proofs.lemmas.List.{replicate_more}
 use Rattle.cg_query.specs.Tree.{Tree, trees_from, terms_from, number, ups, nimber, switch, tiny, braces, negative, multiple, sum, game, octal, used}
 use Rattle.cg_query.specs.Trees.{tree_of, trees_in, trees_of, terms_in, terms_of}
-use Rattle.cg_grammar.specs.Written.{enclosed_text, fraction_text, is_braces, kind_text, more_terms, more_texts, quoted, terms_text, text_of, texts_of, texts_of_game, ups_text}
+use Rattle.cg_grammar.specs.Written.{enclosed_text, fraction_text, is_braces, kind_text, more_terms, more_texts}
+use Rattle.cg_grammar.specs.Written.{quoted, terms_text, text_of, texts_of, texts_of_game, ups_text}
 use Rattle.cg_query.specs.declared.kind.GameKind.{GameKind}
 use Rattle.cg_query.specs.declared.expr.Expr.{Expr}
 use Rattle.cg_query.specs.declared.expr.Exprs.{Exprs}
 use Rattle.cg_query.specs.declared.expr.Term.{Term}
 use Rattle.cg_query.specs.declared.expr.Terms.{Terms}
 use Rattle.cg_query.specs.declared.expr.Expr.TheVariants as expr
-use Rattle.cg_query.proofs.TreeOf.{term_tree, number_tree, ups_tree_of, nimber_tree, switch_tree, tiny_tree, braces_tree, negative_tree, multiple_tree, sum_tree, game_tree, octal_tree, used_tree}
+use Rattle.cg_query.proofs.TreeOf.{term_tree, number_tree, ups_tree_of, nimber_tree, switch_tree, tiny_tree, braces_tree}
+use Rattle.cg_query.proofs.TreeOf.{negative_tree, multiple_tree, sum_tree, game_tree, octal_tree, used_tree}
 use Rattle.cg_query.proofs.Walk.{trees_of-take_suc, terms_of-take_suc}
 
 -- what was put at the end is the same text in other words

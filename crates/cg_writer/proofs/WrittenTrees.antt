@@ -3,7 +3,8 @@ use Rattle.std.proofs.Common.{◌≡◌, suc, refl, ℕ, ◌≤◌, true, false}
 use Rattle.cg_grammar.specs.Grammar as grammar
 use Rattle.cg_grammar.specs.Grammar.{comma, special}
 use Rattle.cg_query.specs.declared.format.Format.TheVariants as formats
-use Rattle.cg_query.specs.Tree.{Tree, Trees, Terms, game, multiple, negative, nimber, no_terms, no_trees, number, octal, used, sides, sum, switch, tiny, ups, with_term, with_tree}
+use Rattle.cg_query.specs.Tree.{Tree, Trees, Terms, game, multiple, negative, nimber, no_terms, no_trees}
+use Rattle.cg_query.specs.Tree.{number, octal, used, sides, sum, switch, tiny, ups, with_term, with_tree}
 use Rattle.cg_grammar.specs.Values.{In_none, clean}
 use Rattle.cg_grammar.specs.Written.{AreFurther, AreTerms, AreWritable, IsSum, IsWritable, fraction_text, inner_height, is_braces, text_of}
 use Rattle.cg_query.specs.Heights.{height}

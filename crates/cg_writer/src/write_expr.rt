@@ -2,7 +2,8 @@
 ghost use Rattle.std.specs.Prelude.{◌≡◌, ◌++◌, ◌∷◌, [], cond, codes, decimal, OnOk};
 ghost use Rattle.cg_query.specs.Tree.{terms_from, trees_from};
 ghost use Rattle.cg_query.specs.Trees.{terms_in, terms_of, tree_of, trees_in, trees_of};
-ghost use Rattle.cg_grammar.specs.Written.{enclosed_text, is_braces, more_terms, more_texts, terms_text, text_of, texts_of};
+ghost use Rattle.cg_grammar.specs.Written.{enclosed_text, is_braces, more_terms};
+ghost use Rattle.cg_grammar.specs.Written.{more_texts, terms_text, text_of, texts_of};
 
 use crate::write_tokens::{
     push_after, push_count, push_game, push_name, push_number, push_octal, push_switch, push_tiny,

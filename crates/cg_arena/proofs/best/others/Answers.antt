@@ -23,10 +23,12 @@ loop-other-preserved c =
     elim c.if-not-branch.branch [
       | then-not-branch+in_ok-push_option w ↦
           let no : c.in_ok-at_most.field-0 ≡ false = search (rules, w.if-not-branch.true) in
-          let more : c.if-not-branch.rest.items ≡ c.loop-other.rest.items ++ other ∷ [] = ap (λ (v : SmallVec _). v.items) w.rest-is ∙ w.in_ok-push_option.ensures in
+          let more : c.if-not-branch.rest.items ≡ c.loop-other.rest.items ++ other ∷ [] = ap (λ (v : SmallVec _). v.items) w.rest-is
+          ∙ w.in_ok-push_option.ensures in
           record {
             right = c.at_most.ensures.right;
-            kept = keep_taken gs test c.args.items.now (games_of gs c.loop-other.rest.items) (games_of gs c.if-not-branch.rest.items) c.loop-other.other-index other
+            kept = keep_taken gs test c.args.items.now (games_of gs c.loop-other.rest.items) (games_of gs c.if-not-branch.rest.items) c.loop-other.other-index
+                other
                 c.loop-other.invariant.kept c.loop-other-test.true refl (ap not (sym c.in_ok-at_most.ensures.order ∙ no))
                 (games_pushed gs c.loop-other.rest.items c.if-not-branch.rest.items other more);
             indexes = indexes_pushed gs c.loop-other.rest.items c.if-not-branch.rest.items other c.loop-other.invariant.indexes

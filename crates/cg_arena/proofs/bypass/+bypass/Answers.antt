@@ -4,7 +4,8 @@ use Rattle.cg_form.proofs.Sides.{size-far}
 use Rattle.cg_arena.specs.Arena.{game_of, games_of}
 use Rattle.cg_arena.specs.UnreducedGames.{unreduced_game}
 use Rattle.cg_arena.proofs.Against.{near_side}
-use Rattle.cg_arena.proofs.Bypassing.{bypassed_more, far_of_same, kept_there, replaced_and_passed, replaced_by_none, replaced_by_one, through_fine, through_less, through_node, through_number}
+use Rattle.cg_arena.proofs.Bypassing.{bypassed_more, far_of_same, kept_there, replaced_and_passed, replaced_by_none}
+use Rattle.cg_arena.proofs.Bypassing.{replaced_by_one, through_fine, through_less, through_node, through_number}
 use Rattle.cg_arena.proofs.Results.{always_ok, if_ok}
 use Rattle.cg_arena.proofs.Slices.{item_among, item_size, index_of_item}
 use Rattle.cg_arena.proofs.bypass.+bypass.Goals as goal

@@ -24,7 +24,8 @@ put_bypassed-requires-clause-rights c = (best_of c).rights
 pub returns-clause-form : goal.returns-clause-form
 returns-clause-form c =
     if_ok c.put_bypassed.result _ _ c.put_bypassed.ensures.form
-    (λ r h. form_equal _ _ _ (of_undominated c.args.arena.now c.args.lefts.now c.args.rights.now c.in_ok-own_lefts.own_lefts.items c.in_ok-own_rights.own_rights.items
+    (λ r h. form_equal _ _ _ (of_undominated c.args.arena.now c.args.lefts.now c.args.rights.now c.in_ok-own_lefts.own_lefts.items
+    c.in_ok-own_rights.own_rights.items
     (record { lefts = c.as_slice.result; rights = c.as_slice-2.result; summary = c.args.summary.now; keys = c.of.result })
     c.as_slice.ensures c.as_slice-2.ensures c.in_ok-own_lefts.ensures.indexes c.in_ok-own_rights.ensures.indexes c.in_ok-own_lefts.ensures.undominated
     c.in_ok-own_rights.ensures.undominated c.requires.no_number c.requires.cuts c.of.ensures).same h)

@@ -30,7 +30,8 @@ returns-clause-holds g c =
     let b = c.args.interner.now in
     let more = c.name.ensures.arena ∙ c.in_ok-index.ensures.games in
     let known = subst (AreRecognized b.arena) (sym c.name.ensures.recognized) c.requires.holds.recognized in
-    holds_more (g.S.CellStore.state c.args.store.now) b (record c.name.new.self { recognized = c.enter.new.self }) c.args.handle (number c.args.x) c.requires.holds
+    holds_more (g.S.CellStore.state c.args.store.now) b (record c.name.new.self { recognized = c.enter.new.self }) c.args.handle (number c.args.x)
+    c.requires.holds
     more c.requires.is
     (c.name.ensures.handles ∙ ap (λ z. z ++ (c.args.handle ∷ [])) c.reserve-2.ensures.items) c.name.ensures.answers c.in_default.ensures.none
     (λ w. let (old, l) = c.name.ensures.indexed w in (old, l ∙ ap (λ z. z ++ (c.args.handle ∷ [])) c.reserve.ensures))

@@ -14,7 +14,8 @@ abbrev pub decreases-indexes_of_list : goal.decreases-indexes_of_list
 decreases-indexes_of_list g l = 3 * list_size (listed (g.S.CellStore.state l.store.now) l.list) + 2
 
 abbrev pub invariant-indexes_of_list-loop-top : goal.invariant-indexes_of_list-loop-top
-invariant-indexes_of_list-loop-top g l = Indexed (g.S.CellStore.state l.initial.store) (g.S.CellStore.state l.store) l.initial.interner l.interner l.fn.list l.rest l.indexes.items
+invariant-indexes_of_list-loop-top g l = Indexed (g.S.CellStore.state l.initial.store) (g.S.CellStore.state l.store) l.initial.interner l.interner l.fn.list
+    l.rest l.indexes.items
 
 abbrev pub decreases-indexes_of_list-loop-top : goal.decreases-indexes_of_list-loop-top
 decreases-indexes_of_list-loop-top g l = length (listed (g.S.CellStore.state l.store) l.rest)

@@ -5,7 +5,8 @@ use Rattle.cg_canon.proofs.value.put_both.Goals as goal
 
 pub put_indexes-requires-2-clause-games : goal.put_indexes-requires-2-clause-games
 put_indexes-requires-2-clause-games g c =
-    are_games_later (g.S.CellStore.state c.args.store.now) (g.S.CellStore.state c.put_indexes.new.store) c.put_indexes.ensures.spends.known c.args.rights.now c.requires.rights
+    are_games_later (g.S.CellStore.state c.args.store.now) (g.S.CellStore.state c.put_indexes.new.store) c.put_indexes.ensures.spends.known c.args.rights.now
+    c.requires.rights
 
 pub returns-then-are_same-clause-rights : goal.returns-then-are_same-clause-rights
 returns-then-are_same-clause-rights g c =
@@ -15,9 +16,11 @@ returns-then-are_same-clause-rights g c =
 
 pub returns-clause-lefts : goal.returns-clause-lefts
 returns-clause-lefts g c =
-    stand_begins c.put_indexes.new.interner.arena c.put_indexes-2.new.interner.arena c.put_indexes.new.indexes.items _ c.put_indexes-2.ensures.begins c.in_ok-put_indexes.ensures.indexes
+    stand_begins c.put_indexes.new.interner.arena c.put_indexes-2.new.interner.arena c.put_indexes.new.indexes.items _ c.put_indexes-2.ensures.begins
+    c.in_ok-put_indexes.ensures.indexes
 
 pub returns-clause-rights : goal.returns-clause-rights
 returns-clause-rights g c =
-    rw (← (games_later (g.S.CellStore.state c.args.store.now) (g.S.CellStore.state c.put_indexes.new.store) c.put_indexes.ensures.spends.known c.args.rights.now c.requires.rights))
+    rw (← (games_later (g.S.CellStore.state c.args.store.now) (g.S.CellStore.state c.put_indexes.new.store) c.put_indexes.ensures.spends.known c.args.rights.now
+    c.requires.rights))
     c.in_ok-put_indexes-2.ensures.indexes

@@ -35,6 +35,9 @@ pub returns-in-AsGiven-clause-value : goal.returns-in-AsGiven-clause-value
 returns-in-AsGiven-clause-value g c =
     let s = g.S.CellStore.state c.args.store.now in
     let gs = c.put_both.new.interner.arena in
-    given_form gs (games_at s c.args.lefts.now) (games_at s c.args.rights.now) (record { form = c.put_both.new.form; summary = c.summary_of_lists-summary.result })
+    given_form gs (games_at s c.args.lefts.now) (games_at s c.args.rights.now) (record {
+      form = c.put_both.new.form;
+      summary = c.summary_of_lists-summary.result;
+    })
     (rw c.in-AsGiven.is at c.requires.way) c.in_ok-put_both.ensures.lefts c.in_ok-put_both.ensures.rights
     (rw (← c.as_slice-rights.ensures) (rw (← c.as_slice-lefts.ensures) c.summary_of_lists-summary.ensures))

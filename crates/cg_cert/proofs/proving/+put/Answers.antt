@@ -7,7 +7,8 @@ use Rattle.cg_cert.specs.Pairs.{moves}
 use Rattle.cg_cert.specs.Positions.{stage_at}
 use Rattle.cg_cert.proofs.Moves.{led-answered}
 use Rattle.cg_cert.proofs.Moving.{move_answer, no_answer}
-use Rattle.cg_cert.proofs.Writing.{answer_text-letter, answered-text, left_text, putting_all, putting_fault, putting_more, reply_text, settled-text, wrote_along, wrote_exit, wrote_fault, wrote_nothing}
+use Rattle.cg_cert.proofs.Writing.{answer_text-letter, answered-text, left_text, putting_all, putting_fault, putting_more}
+use Rattle.cg_cert.proofs.Writing.{reply_text, settled-text, wrote_along, wrote_exit, wrote_fault, wrote_nothing}
 use Rattle.cg_cert.proofs.proving.+put.Goals as goal
 
 pub put_move-returns-in_err-put-clause-wrote : goal.put_move-returns-in_err-put-clause-wrote

@@ -32,7 +32,8 @@ loop-left-preserved c =
     let first = bit_at-trailing_zeros w64 c.loop-left.left (omega (arith, c.loop-left-test.true)) c.loop-left.invariant.fits in
     listed-more _ _ _ _ _ c.loop-left.left c.with_bit-left.result _ _ _ c.loop-left.boards.items c.put_toward.new.boards.items
     (c.loop-left.invariant.within _ first.1) refl first.1 c.with_bit-left.ensures first.2 (λ j other l. other)
-    (omega (arith, c.with_bit-left.type_inv)) c.loop-left.invariant (listed_then _ c.loop-left.boards.items c.put_onward.new.boards.items c.put_toward.new.boards.items
+    (omega (arith, c.with_bit-left.type_inv)) c.loop-left.invariant (listed_then _ c.loop-left.boards.items c.put_onward.new.boards.items
+    c.put_toward.new.boards.items
     _ _ c.in_ok-put_onward.ensures c.in_ok-put_toward.ensures)
 
 pub returns : goal.returns

@@ -24,21 +24,26 @@ learn-learn_all-requires-in-Node t c =
     (search rules, tt)
 
 pub learn-returns-in-Num-clause-known : goal.learn-returns-in-Num-clause-known
-learn-returns-in-Num-clause-known t c = known_num c.args.left c.args.form.now c.in-Num.x _ c.in-Num.is c.closed.ensures.at c.closed.ensures.closed c.closed.ensures.in_range
+learn-returns-in-Num-clause-known t c = known_num c.args.left c.args.form.now c.in-Num.x _ c.in-Num.is c.closed.ensures.at c.closed.ensures.closed
+    c.closed.ensures.in_range
 
 pub learn_all-learn-requires : goal.learn_all-learn-requires
 learn_all-learn-requires t c =
-    let s = size_of_item c.as_slice-option-items.result.now c.args.options.now c.loop-option.option-index c.option-item.result c.as_slice-option-items.ensures c.option-item.is c.loop-option-test.true in
+    let s = size_of_item c.as_slice-option-items.result.now c.args.options.now c.loop-option.option-index c.option-item.result c.as_slice-option-items.ensures
+    c.option-item.is c.loop-option-test.true in
     (search rules, tt)
 
 pub learn_all-returns-in_err-form-clause-range : goal.learn_all-returns-in_err-form-clause-range
-learn_all-returns-in_err-form-clause-range t c = let p = err_from_is_err_and c.from_residual.result c.from_residual.ensures.1 in λ e. any_outside c.args.options.now (game_of c.option-item.result)
-    (among_item c.as_slice-option-items.result.now c.args.options.now c.loop-option.option-index c.option-item.result c.loop-option-test.true c.option-item.is c.as_slice-option-items.ensures)
+learn_all-returns-in_err-form-clause-range t c = let p = err_from_is_err_and c.from_residual.result c.from_residual.ensures.1 in
+    λ e. any_outside c.args.options.now (game_of c.option-item.result)
+    (among_item c.as_slice-option-items.result.now c.args.options.now c.loop-option.option-index c.option-item.result c.loop-option-test.true c.option-item.is
+    c.as_slice-option-items.ensures)
     (c.in_err-form.ensures.range (ap Err (same_err p.0 c.in_err-form.field-0.0 c.from_residual.result p.1 p.2 e)))
 
 pub learn_all-loop-option-preserved : goal.learn_all-loop-option-preserved
 learn_all-loop-option-preserved t c = record {
-  copies = copies_next c.as_slice-option-items.result.now c.loop-option.forms.items c.push.new.self.items c.loop-option.option-index c.option-item.result c.in_ok-form.field-0.form
+  copies = copies_next c.as_slice-option-items.result.now c.loop-option.forms.items c.push.new.self.items c.loop-option.option-index c.option-item.result
+      c.in_ok-form.field-0.form
       c.loop-option-test.true c.option-item.is c.loop-option.invariant.copies c.in_ok-form.ensures.known.form c.in_ok-push.ensures.items;
   cut = cut_step AnyNumber c.args.left c.as_slice-option-items.result.now c.loop-option.option-index c.option-item.result c.loop-option.cut _ _
       c.loop-option-test.true c.option-item.is c.loop-option.invariant.cut c.in_ok-form.ensures.known.cut c.joined-both.ensures;

@@ -7,7 +7,8 @@ use Rattle.cg_form.proofs.compare.+compare.Goals as goal
 
 pub compare_lists-compare_structure-order-requires : goal.compare_lists-compare_structure-order-requires
 compare_lists-compare_structure-order-requires t c =
-    let s = size_of_item c.as_slice-left.result.now c.args.a.now c.loop-i.i c.index-left-i.result c.as_slice-left.ensures c.index-left-i.is c.loop-i-test.true in
+    let s = size_of_item c.as_slice-left.result.now c.args.a.now c.loop-i.i c.index-left-i.result c.as_slice-left.ensures c.index-left-i.is c.loop-i-test.true
+    in
     (search rules, tt)
 
 pub compare_structure-compare_lists-order-requires : goal.compare_structure-compare_lists-order-requires
@@ -33,4 +34,5 @@ compare_structure-returns-else-ne t c =
     record { order = o; same = compared_same c.compare_lists.result (game_of c.args.a.now) (game_of c.args.b.now) o }
 
 pub compare_lists-returns-then-left-right : goal.compare_lists-returns-then-left-right
-compare_lists-returns-then-left-right t c = shorter_returns c.as_slice-left.result.now c.as_slice-right.result.now c.args.a.now c.args.b.now c.loop-i.i c.loop-i.invariant.rest c.loop-i-test.false c.loop-i.auto.i-end c.if-left-right.true
+compare_lists-returns-then-left-right t c = shorter_returns c.as_slice-left.result.now c.as_slice-right.result.now c.args.a.now c.args.b.now c.loop-i.i
+    c.loop-i.invariant.rest c.loop-i-test.false c.loop-i.auto.i-end c.if-left-right.true

@@ -1,6 +1,7 @@
 use Rattle.std.proofs.Common.{[]}
 use Rattle.cg_form.specs.Extended.{extended, positions_before}
-use Rattle.cg_form.proofs.AllPositions.{among-positions_of, positions_of-among, positions_of-canonical, positions_of-last, positions_of-number, positions_of-once, positions_of-options_first}
+use Rattle.cg_form.proofs.AllPositions.{among-positions_of, positions_of-among, positions_of-canonical, positions_of-last}
+use Rattle.cg_form.proofs.AllPositions.{positions_of-number, positions_of-once, positions_of-options_first}
 use Rattle.cg_form.proofs.Structure.{is_same-both}
 use Rattle.cg_form.proofs.laws.position_lists.Goals as goal
 

@@ -50,12 +50,14 @@ none_below-le_slow-requires t c =
 
 pub none_above-returns-then-le_slow : goal.none_above-returns-then-le_slow
 none_above-returns-then-le_slow t c =
-    hit_returns (λ a. le (game_of c.args.form.now) a) c.as_slice-option-items.result.now c.args.options.now c.loop-option.option-index c.option-item.result c.le_slow.result
+    hit_returns (λ a. le (game_of c.args.form.now) a) c.as_slice-option-items.result.now c.args.options.now c.loop-option.option-index c.option-item.result
+    c.le_slow.result
     c.loop-option-test.true c.option-item.is c.as_slice-option-items.ensures c.le_slow.ensures c.if-le_slow.true
 
 pub none_below-returns-then-le_slow : goal.none_below-returns-then-le_slow
 none_below-returns-then-le_slow t c =
-    hit_returns (λ b. le b (game_of c.args.form.now)) c.as_slice-option-items.result.now c.args.options.now c.loop-option.option-index c.option-item.result c.le_slow.result
+    hit_returns (λ b. le b (game_of c.args.form.now)) c.as_slice-option-items.result.now c.args.options.now c.loop-option.option-index c.option-item.result
+    c.le_slow.result
     c.loop-option-test.true c.option-item.is c.as_slice-option-items.ensures c.le_slow.ensures c.if-le_slow.true
 
 pub none_above-loop-option-preserved : goal.none_above-loop-option-preserved

@@ -1,6 +1,7 @@
 use Rattle.std.proofs.Common.{◌∙◌, add-one, ap, arith, Err}
 use Rattle.std.proofs.lemmas.Result.{err_from_is_err_and}
-use Rattle.cg_names.proofs.NimberSteps.{nimber_made, nimber_made-canonical, nimber_options, nimbers_all, nimbers_first_refused, nimbers_next, nimbers_refused, nimbers_start}
+use Rattle.cg_names.proofs.NimberSteps.{nimber_made, nimber_made-canonical, nimber_options, nimbers_all}
+use Rattle.cg_names.proofs.NimberSteps.{nimbers_first_refused, nimbers_next, nimbers_refused, nimbers_start}
 use Rattle.cg_names.proofs.nimbers.make_nimbers.Goals as goal
 
 pub returns-in_err-last : goal.returns-in_err-last

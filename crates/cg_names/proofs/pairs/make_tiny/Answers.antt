@@ -24,7 +24,8 @@ make-requires-clause-canonical g c =
     let z = tiny_zero (work_state g.S.CellStore.state c.make_pair.new.work) c.args.miny c.args.x c.args.first c.args.second _ _ _ c.in_ok-pair.ensures.first
     c.in_ok-pair.ensures.second c.requires.first c.requires.second c.zero_of-zero.ensures in
     let P : Game → Type 0 = λ k. Canonical k in
-    subst P (sym (tiny_made (work_state g.S.CellStore.state c.make_pair.new.work) c.args.miny c.args.x c.args.first c.args.second _ _ z c.in_ok-pair.ensures.game
+    subst P (sym (tiny_made (work_state g.S.CellStore.state c.make_pair.new.work) c.args.miny c.args.x c.args.first c.args.second _ _ z
+    c.in_ok-pair.ensures.game
     c.requires.first c.requires.second)) (tiny-canonical c.args.miny c.args.x c.requires.number)
 
 pub returns : goal.returns

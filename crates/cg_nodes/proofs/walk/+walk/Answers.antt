@@ -8,7 +8,8 @@ use Rattle.cg_nodes.specs.Walks.{AreFoundAfter}
 use Rattle.cg_nodes.proofs.Later.{is_list_later, listed_later, spends_then}
 use Rattle.cg_nodes.proofs.Lists.{head_end}
 use Rattle.cg_nodes.proofs.Outcomes.{ok_at, ok_then, ok_within, passed_on}
-use Rattle.cg_nodes.proofs.Walked.{before_length, found_at_top, found_later, found_next, found_there, left_length, lists_walked, next_length, number_walked, right_length, top_depth, walking_all, walking_length, walking_more, walking_shorter}
+use Rattle.cg_nodes.proofs.Walked.{before_length, found_at_top, found_later, found_next, found_there, left_length, lists_walked, next_length}
+use Rattle.cg_nodes.proofs.Walked.{number_walked, right_length, top_depth, walking_all, walking_length, walking_more, walking_shorter}
 use Rattle.cg_nodes.proofs.walk.+walk.Goals as goal
 
 -- ---- a game

@@ -4,7 +4,8 @@ use Rattle.cg_query.specs.Trees.{tree_of, trees_in, terms_in}
 use Rattle.cg_query.specs.Heights.{height, heights, term_heights}
 use Rattle.cg_query.specs.declared.expr.Expr.{Expr}
 use Rattle.cg_query.specs.declared.expr.Expr.TheVariants as expr
-use Rattle.cg_query.proofs.TreeOf.{number_tree, ups_tree_of, nimber_tree, switch_tree, tiny_tree, braces_tree, negative_tree, multiple_tree, sum_tree, game_tree, octal_tree, used_tree}
+use Rattle.cg_query.proofs.TreeOf.{number_tree, ups_tree_of, nimber_tree, switch_tree, tiny_tree, braces_tree}
+use Rattle.cg_query.proofs.TreeOf.{negative_tree, multiple_tree, sum_tree, game_tree, octal_tree, used_tree}
 use Rattle.cg_query.proofs.Heights.{leaf_low, parts_low, heights_next, item_high, term_heights_next, term_high}
 use Rattle.cg_query.proofs.levels.+is_within.Goals as goal
 
@@ -58,7 +59,8 @@ pub parts_within-returns-in-Multiple : goal.parts_within-returns-in-Multiple
 parts_within-returns-in-Multiple t c = parts_low c.args.expr.now (expr.Multiple c.in-Multiple.field-0 c.in-Multiple.inner)
     (multiple c.in-Multiple.field-0 (tree_of c.deref-in-Multiple.result.now)) c.args.levels (height (tree_of c.deref-in-Multiple.result.now))
     c.is_within-in-Multiple.result c.in-Multiple.is
-    (multiple_tree c.in-Multiple.field-0 c.in-Multiple.inner ∙ ap (λ (x : Expr). multiple c.in-Multiple.field-0 (tree_of x)) (sym c.deref-in-Multiple.ensures)) refl c.is_within-in-Multiple.ensures
+    (multiple_tree c.in-Multiple.field-0 c.in-Multiple.inner ∙ ap (λ (x : Expr). multiple c.in-Multiple.field-0 (tree_of x)) (sym c.deref-in-Multiple.ensures))
+    refl c.is_within-in-Multiple.ensures
 
 pub parts_within-returns-in-Sum : goal.parts_within-returns-in-Sum
 parts_within-returns-in-Sum t c = parts_low c.args.expr.now (expr.Sum c.in-Sum.terms) (sum (terms_from (terms_in c.in-Sum.terms)))

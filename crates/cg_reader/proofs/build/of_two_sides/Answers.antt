@@ -10,4 +10,5 @@ pub returns : goal.returns
 returns c =
     let l : trees_in c.of-lefts.result ≡ side_trees (side_found c.args.left) = search rules in
     let r : trees_in c.of-rights.result ≡ side_trees (side_found c.args.right) = search rules in
-    λ bars some most column. ap (λ (x : Found). Ok x) (two_sides bars column (side_found c.args.left) (side_found c.args.right) c.of-lefts.result c.of-rights.result c.earlier-fault.result some most l r (search rules))
+    λ bars some most column. ap (λ (x : Found). Ok x) (two_sides bars column (side_found c.args.left) (side_found c.args.right) c.of-lefts.result
+    c.of-rights.result c.earlier-fault.result some most l r (search rules))

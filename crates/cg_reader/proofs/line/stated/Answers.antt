@@ -6,10 +6,12 @@ use Rattle.cg_reader.proofs.StatementAnswers.{stated_read, stated_refused}
 use Rattle.cg_reader.proofs.line.stated.Goals as goal
 
 pub returns-in-Ok-clause-read : goal.returns-in-Ok-clause-read
-returns-in-Ok-clause-read c = stated_read c.args.format c.args.line.now (statement_of c.in-Ok.stated.statement) c.in-Ok.stated.fault c.faultless.result c.in-Ok.ensures c.faultless.ensures
+returns-in-Ok-clause-read c = stated_read c.args.format c.args.line.now (statement_of c.in-Ok.stated.statement) c.in-Ok.stated.fault c.faultless.result
+    c.in-Ok.ensures c.faultless.ensures
 
 pub returns-in-Ok-clause-refused : goal.returns-in-Ok-clause-refused
-returns-in-Ok-clause-refused c = stated_refused c.args.format c.args.line.now (statement_of c.in-Ok.stated.statement) c.in-Ok.stated.fault c.faultless.result c.in-Ok.ensures c.faultless.ensures
+returns-in-Ok-clause-refused c = stated_refused c.args.format c.args.line.now (statement_of c.in-Ok.stated.statement) c.in-Ok.stated.fault c.faultless.result
+    c.in-Ok.ensures c.faultless.ensures
 
 pub overflow_sub-result : goal.overflow_sub-result
 overflow_sub-result c =

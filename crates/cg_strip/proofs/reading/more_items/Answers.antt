@@ -17,10 +17,12 @@ loop-first-preserved c =
     let front = c.loop-first.weights.items in
     let end = c.args.text_end in
     let after = c.in_ok-item.after.now in
-    let e = behind_next _ turn_at g semicolon turn_ok.reads front end c.in-Some.first.now c.loop-first.rest.now c.in-Some.field-0-1.now c.in-Some.ensures.cases.0 (sym c.is_byte.ensures ∙ c.if-not-is_byte.false) (omega (arith, c.loop-first.invariant.shorter, c.requires)) in
+    let e = behind_next _ turn_at g semicolon turn_ok.reads front end c.in-Some.first.now c.loop-first.rest.now c.in-Some.field-0-1.now
+    c.in-Some.ensures.cases.0 (sym c.is_byte.ensures ∙ c.if-not-is_byte.false) (omega (arith, c.loop-first.invariant.shorter, c.requires)) in
     let next = ap (λ (z : Read (WeightItem ⊎ RuleItem)). z >>= behind_turn _ turn_at g semicolon turn_ok.reads front end) c.in_ok-item.ensures.read in
     let kind = ap (λ (i : Item). behind_turn _ turn_at g semicolon turn_ok.reads front end (item_of i, after)) c.in-Weighs.is in
     record {
       shorter = omega (arith, c.in_ok-item.ensures.shorter, c.loop-first.invariant.shorter);
-      same = ap (λ (ts : List WeightItem). turns_behind semicolon turn_at g ts end after) c.in_ok-push-in-Weighs.ensures.items ∙ sym (e ∙ next ∙ kind) ∙ c.loop-first.invariant.same;
+      same = ap (λ (ts : List WeightItem). turns_behind semicolon turn_at g ts end after) c.in_ok-push-in-Weighs.ensures.items ∙ sym (e ∙ next ∙ kind)
+          ∙ c.loop-first.invariant.same;
     }

@@ -45,7 +45,8 @@ pub returns-in_err-sum : goal.returns-in_err-sum
 returns-in_err-sum g c =
     let p = err_from_is_err_and c.from_residual.result c.from_residual.ensures.1 in
     list_stopped (sum_at_place g.games) _ (item_of_sum (game_of g.games.0 c.args.row)) _ _ _ _ _ _ _ _
-    (inside_walk _ _ _ c.requires.1.1.1.1.0 _ _ c.len-column-end.ensures c.loop-column-test.true) _ _ c.loop-column.invariant _ _ c.sum_item.ensures _ _ c.in_err-sum.was (p.1 ∙ ap Err p.2) _ _
+    (inside_walk _ _ _ c.requires.1.1.1.1.0 _ _ c.len-column-end.ensures c.loop-column-test.true) _ _ c.loop-column.invariant _ _ c.sum_item.ensures _ _
+    c.in_err-sum.was (p.1 ∙ ap Err p.2) _ _
 
 pub returns-in_err-push : goal.returns-in_err-push
 returns-in_err-push g c =

@@ -10,7 +10,8 @@ use Rattle.cg_query.specs.declared.expr.Expr.TheVariants as expr
 use Rattle.cg_query.proofs.TreeOf.{number_tree, ups_tree_of, nimber_tree, switch_tree, tiny_tree, used_tree, term_tree}
 use Rattle.cg_query.proofs.Walk.{size, size_of_braces, size_of_negative, size_of_multiple, size_of_sum, size_of_item, size_of_term}
 use Rattle.cg_syntax.proofs.Closed.{bare}
-use Rattle.cg_syntax.proofs.ExpandSteps.{bound_within, braces_expanded, form_expanded, game_expanded, multiple_expanded, negative_expanded, octal_expanded, room_of, sum_expanded, term_next, use_expanded}
+use Rattle.cg_syntax.proofs.ExpandSteps.{bound_within, braces_expanded, form_expanded, game_expanded, multiple_expanded}
+use Rattle.cg_syntax.proofs.ExpandSteps.{negative_expanded, octal_expanded, room_of, sum_expanded, term_next, use_expanded}
 use Rattle.cg_syntax.proofs.expand.+expand.Goals as goal
 
 -- ---- measures
@@ -30,7 +31,8 @@ expand-expand-requires t c =
 pub expand-expand-requires-in-Multiple : goal.expand-expand-requires-in-Multiple
 expand-expand-requires-in-Multiple t c =
     let b = size_of_multiple c.args.expr.now c.in-Multiple.count c.in-Multiple.inner c.in-Multiple.is in
-    let s : size (tree_of c.deref-in-Multiple.result.now) ≡ size (tree_of c.in-Multiple.inner.value) = ap (λ (x : Expr). size (tree_of x)) c.deref-in-Multiple.ensures in
+    let s : size (tree_of c.deref-in-Multiple.result.now) ≡ size (tree_of c.in-Multiple.inner.value) = ap (λ (x : Expr). size (tree_of x))
+    c.deref-in-Multiple.ensures in
     search rules
 
 pub expand-expand_terms-requires : goal.expand-expand_terms-requires
@@ -38,13 +40,16 @@ expand-expand_terms-requires t c = let b = size_of_sum c.args.expr.now c.in-Sum.
 
 pub expand_side-expand-requires : goal.expand_side-expand-requires
 expand_side-expand-requires t c =
-    let s = size_of_item c.as_slice-expr-items.result.now (trees_in c.args.exprs.now) c.loop-expr.expr-index c.expr-item.result c.as_slice-expr-items.ensures c.expr-item.is c.loop-expr-test.true in
+    let s = size_of_item c.as_slice-expr-items.result.now (trees_in c.args.exprs.now) c.loop-expr.expr-index c.expr-item.result c.as_slice-expr-items.ensures
+    c.expr-item.is c.loop-expr-test.true in
     search rules
 
 pub expand_terms-expand-requires : goal.expand_terms-expand-requires
 expand_terms-expand-requires t c =
-    let s = size_of_term c.as_slice-term-items.result.now (terms_in c.args.terms.now) c.loop-term.term-index c.term-item.result c.as_slice-term-items.ensures c.term-item.is c.loop-term-test.true in
-    let e : size (tree_of c.term-item.result.expr) ≡ size (term_of c.term-item.result).1 = ap (λ (p : Bool × Tree). size p.1) (sym (term_tree c.term-item.result.minus c.term-item.result.expr)) in
+    let s = size_of_term c.as_slice-term-items.result.now (terms_in c.args.terms.now) c.loop-term.term-index c.term-item.result c.as_slice-term-items.ensures
+    c.term-item.is c.loop-term-test.true in
+    let e : size (tree_of c.term-item.result.expr) ≡ size (term_of c.term-item.result).1 = ap (λ (p : Bool × Tree). size p.1)
+    (sym (term_tree c.term-item.result.minus c.term-item.result.expr)) in
     search rules
 
 pub copy-expand-requires : goal.copy-expand-requires

@@ -5,9 +5,11 @@ use Rattle.cg_query.specs.Tree.{Tree, number, ups, nimber, switch, tiny, braces,
 use Rattle.cg_query.specs.Trees.{tree_of, trees_in, term_of, terms_in}
 use Rattle.cg_query.specs.declared.expr.Expr.{Expr}
 use Rattle.cg_query.specs.declared.expr.Expr.TheVariants as expr
-use Rattle.cg_query.proofs.TreeOf.{number_tree, ups_tree_of, nimber_tree, switch_tree, tiny_tree, braces_tree, negative_tree, multiple_tree, sum_tree, game_tree, octal_tree, used_tree, term_tree}
+use Rattle.cg_query.proofs.TreeOf.{number_tree, ups_tree_of, nimber_tree, switch_tree, tiny_tree, braces_tree}
+use Rattle.cg_query.proofs.TreeOf.{negative_tree, multiple_tree, sum_tree, game_tree, octal_tree, used_tree, term_tree}
 use Rattle.cg_query.proofs.Walk.{size, size_of_braces, size_of_negative, size_of_multiple, size_of_sum, size_of_item, size_of_term}
-use Rattle.cg_syntax.proofs.SizeSteps.{beside_sized, failed, fails_first, fails_later, item_fails, item_sized, leaf_sized, multiple_over, negative_over, node_fails, node_sized, one_sized, sides_over, sum_over, term_fails, term_sized, trees_of_terms, used_sized}
+use Rattle.cg_syntax.proofs.SizeSteps.{beside_sized, failed, fails_first, fails_later, item_fails, item_sized, leaf_sized, multiple_over, negative_over}
+use Rattle.cg_syntax.proofs.SizeSteps.{node_fails, node_sized, one_sized, sides_over, sum_over, term_fails, term_sized, trees_of_terms, used_sized}
 use Rattle.cg_syntax.proofs.sizes.+measured.Goals as goal
 
 -- ---- measures
@@ -24,7 +26,8 @@ measured-measured-requires t c =
 pub measured-measured-requires-in-Multiple : goal.measured-measured-requires-in-Multiple
 measured-measured-requires-in-Multiple t c =
     let b = size_of_multiple c.args.expr.now c.in-Multiple.field-0 c.in-Multiple.inner c.in-Multiple.is in
-    let s : size (tree_of c.deref-in-Multiple.result.now) ≡ size (tree_of c.in-Multiple.inner.value) = ap (λ (x : Expr). size (tree_of x)) c.deref-in-Multiple.ensures in
+    let s : size (tree_of c.deref-in-Multiple.result.now) ≡ size (tree_of c.in-Multiple.inner.value) = ap (λ (x : Expr). size (tree_of x))
+    c.deref-in-Multiple.ensures in
     search rules
 
 pub measured-terms_size-requires : goal.measured-terms_size-requires
@@ -32,23 +35,28 @@ measured-terms_size-requires t c = let b = size_of_sum c.args.expr.now c.in-Sum.
 
 pub side_size-measured-requires : goal.side_size-measured-requires
 side_size-measured-requires t c =
-    let s = size_of_item c.as_slice-expr-items.result.now (trees_in c.args.exprs.now) c.loop-expr.expr-index c.expr-item.result c.as_slice-expr-items.ensures c.expr-item.is c.loop-expr-test.true in
+    let s = size_of_item c.as_slice-expr-items.result.now (trees_in c.args.exprs.now) c.loop-expr.expr-index c.expr-item.result c.as_slice-expr-items.ensures
+    c.expr-item.is c.loop-expr-test.true in
     search rules
 
 pub terms_size-measured-requires : goal.terms_size-measured-requires
 terms_size-measured-requires t c =
-    let s = size_of_term c.as_slice-term-items.result.now (terms_in c.args.terms.now) c.loop-term.term-index c.term-item.result c.as_slice-term-items.ensures c.term-item.is c.loop-term-test.true in
-    let e : size (tree_of c.term-item.result.expr) ≡ size (term_of c.term-item.result).1 = ap (λ (p : Bool × Tree). size p.1) (sym (term_tree c.term-item.result.minus c.term-item.result.expr)) in
+    let s = size_of_term c.as_slice-term-items.result.now (terms_in c.args.terms.now) c.loop-term.term-index c.term-item.result c.as_slice-term-items.ensures
+    c.term-item.is c.loop-term-test.true in
+    let e : size (tree_of c.term-item.result.expr) ≡ size (term_of c.term-item.result).1 = ap (λ (p : Bool × Tree). size p.1)
+    (sym (term_tree c.term-item.result.minus c.term-item.result.expr)) in
     search rules
 
 -- ---- leaves
 
 pub measured-returns-in-Number : goal.measured-returns-in-Number
-measured-returns-in-Number t c = one_sized (bindings_in c.args.sheet.now) c.args.expr.now (expr.Number c.in-Number.negative c.in-Number.num c.in-Number.den) (number c.in-Number.negative c.in-Number.num c.in-Number.den)
+measured-returns-in-Number t c = one_sized (bindings_in c.args.sheet.now) c.args.expr.now (expr.Number c.in-Number.negative c.in-Number.num c.in-Number.den)
+    (number c.in-Number.negative c.in-Number.num c.in-Number.den)
     c.leaf.result c.in-Number.is (number_tree c.in-Number.negative c.in-Number.num c.in-Number.den) refl refl refl c.leaf.ensures
 
 pub measured-returns-in-Ups : goal.measured-returns-in-Ups
-measured-returns-in-Ups t c = one_sized (bindings_in c.args.sheet.now) c.args.expr.now (expr.Ups c.in-Ups.down c.in-Ups.count) (ups c.in-Ups.down c.in-Ups.count)
+measured-returns-in-Ups t c = one_sized (bindings_in c.args.sheet.now) c.args.expr.now (expr.Ups c.in-Ups.down c.in-Ups.count) (ups c.in-Ups.down
+    c.in-Ups.count)
     c.leaf-in-Ups.result c.in-Ups.is (ups_tree_of c.in-Ups.down c.in-Ups.count) refl refl refl c.leaf-in-Ups.ensures
 
 pub measured-returns-in-Nimber : goal.measured-returns-in-Nimber
@@ -56,15 +64,18 @@ measured-returns-in-Nimber t c = one_sized (bindings_in c.args.sheet.now) c.args
     c.leaf-in-Nimber.result c.in-Nimber.is (nimber_tree c.in-Nimber.field-0) refl refl refl c.leaf-in-Nimber.ensures
 
 pub measured-returns-in-Switch : goal.measured-returns-in-Switch
-measured-returns-in-Switch t c = one_sized (bindings_in c.args.sheet.now) c.args.expr.now (expr.Switch c.in-Switch.num c.in-Switch.den) (switch c.in-Switch.num c.in-Switch.den)
+measured-returns-in-Switch t c = one_sized (bindings_in c.args.sheet.now) c.args.expr.now (expr.Switch c.in-Switch.num c.in-Switch.den) (switch c.in-Switch.num
+    c.in-Switch.den)
     c.leaf-in-Switch.result c.in-Switch.is (switch_tree c.in-Switch.num c.in-Switch.den) refl refl refl c.leaf-in-Switch.ensures
 
 pub measured-returns-in-Tiny : goal.measured-returns-in-Tiny
-measured-returns-in-Tiny t c = one_sized (bindings_in c.args.sheet.now) c.args.expr.now (expr.Tiny c.in-Tiny.miny c.in-Tiny.num c.in-Tiny.den) (tiny c.in-Tiny.miny c.in-Tiny.num c.in-Tiny.den)
+measured-returns-in-Tiny t c = one_sized (bindings_in c.args.sheet.now) c.args.expr.now (expr.Tiny c.in-Tiny.miny c.in-Tiny.num c.in-Tiny.den)
+    (tiny c.in-Tiny.miny c.in-Tiny.num c.in-Tiny.den)
     c.leaf-in-Tiny.result c.in-Tiny.is (tiny_tree c.in-Tiny.miny c.in-Tiny.num c.in-Tiny.den) refl refl refl c.leaf-in-Tiny.ensures
 
 pub measured-returns-in-Octal : goal.measured-returns-in-Octal
-measured-returns-in-Octal t c = one_sized (bindings_in c.args.sheet.now) c.args.expr.now (expr.Octal c.in-Octal.code c.in-Octal.heap) (octal c.in-Octal.code c.in-Octal.heap)
+measured-returns-in-Octal t c = one_sized (bindings_in c.args.sheet.now) c.args.expr.now (expr.Octal c.in-Octal.code c.in-Octal.heap) (octal c.in-Octal.code
+    c.in-Octal.heap)
     c.leaf-in-Octal.result c.in-Octal.is (octal_tree c.in-Octal.code c.in-Octal.heap) refl refl refl c.leaf-in-Octal.ensures
 
 pub measured-returns-in-Game : goal.measured-returns-in-Game
@@ -127,7 +138,8 @@ measured-returns-in_ok-measured-in-Multiple t c =
     let t1 = tree_of c.deref-in-Multiple.result.now in
     let same : tree_of (expr.Multiple c.in-Multiple.field-0 c.in-Multiple.inner) ≡ multiple c.in-Multiple.field-0 t1 =
     multiple_tree c.in-Multiple.field-0 c.in-Multiple.inner ∙ ap (λ (x : Expr). multiple c.in-Multiple.field-0 (tree_of x)) (sym c.deref-in-Multiple.ensures) in
-    node_sized bs c.args.expr.now (expr.Multiple c.in-Multiple.field-0 c.in-Multiple.inner) (multiple c.in-Multiple.field-0 t1) (t1 ∷ []) c.in_ok-measured-in-Multiple.field-0 c.below-in-Multiple.result
+    node_sized bs c.args.expr.now (expr.Multiple c.in-Multiple.field-0 c.in-Multiple.inner) (multiple c.in-Multiple.field-0 t1) (t1 ∷ [])
+    c.in_ok-measured-in-Multiple.field-0 c.below-in-Multiple.result
     c.in-Multiple.is same (multiple_over bs c.in-Multiple.field-0 t1)
     (record { parts = c.below-in-Multiple.ensures.parts; levels = c.below-in-Multiple.ensures.levels; has_use = c.below-in-Multiple.ensures.has_use })
     c.in_ok-measured-in-Multiple.ensures
@@ -140,7 +152,8 @@ measured-returns-in_err-measured-in-Multiple t c =
     multiple_tree c.in-Multiple.field-0 c.in-Multiple.inner ∙ ap (λ (x : Expr). multiple c.in-Multiple.field-0 (tree_of x)) (sym c.deref-in-Multiple.ensures) in
     let p = err_from_is_err_and c.from_residual-in_err-measured-in-Multiple.result c.from_residual-in_err-measured-in-Multiple.ensures.1 in
     failed bs (tree_of c.args.expr.now ∷ []) c.from_residual-in_err-measured-in-Multiple.result p.0 c.in_err-measured-in-Multiple.field-0.0 p.1 p.2
-    (node_fails bs c.args.expr.now (expr.Multiple c.in-Multiple.field-0 c.in-Multiple.inner) (multiple c.in-Multiple.field-0 t1) (t1 ∷ []) c.in_err-measured-in-Multiple.field-0.0
+    (node_fails bs c.args.expr.now (expr.Multiple c.in-Multiple.field-0 c.in-Multiple.inner) (multiple c.in-Multiple.field-0 t1) (t1 ∷ [])
+    c.in_err-measured-in-Multiple.field-0.0
     c.in-Multiple.is same (multiple_over bs c.in-Multiple.field-0 t1) c.in_err-measured-in-Multiple.ensures)
 
 pub measured-returns-in_ok-terms_size-in-Sum : goal.measured-returns-in_ok-terms_size-in-Sum
@@ -164,7 +177,8 @@ measured-returns-in_err-terms_size-in-Sum t c =
 -- ---- lists
 
 pub sides_size-returns : goal.sides_size-returns
-sides_size-returns t c = beside_sized (bindings_in c.args.sheet.now) (trees_in c.args.lefts.now) (trees_in c.args.rights.now) c.in_ok-left.left c.in_ok-right.right c.beside.result
+sides_size-returns t c = beside_sized (bindings_in c.args.sheet.now) (trees_in c.args.lefts.now) (trees_in c.args.rights.now) c.in_ok-left.left
+    c.in_ok-right.right c.beside.result
     (record { parts = c.beside.ensures.parts; levels = c.beside.ensures.levels; has_use = c.beside.ensures.has_use })
     c.in_ok-left.ensures c.in_ok-right.ensures
 

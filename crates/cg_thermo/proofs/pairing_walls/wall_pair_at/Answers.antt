@@ -61,7 +61,8 @@ returns-in-Number-clause-wall_pair g c =
 
 pub returns-in_ok-high-in-Game-clause-wall_pair : goal.returns-in_ok-high-in-Game-clause-wall_pair
 returns-in_ok-high-in-Game-clause-wall_pair g c =
-    joined-walls_paired _ _ _ c.joined.result (the_highest g (goal.at.returns-in_ok-high-in-Game-clause-wall_pair g c).In_ok-high-in-Game) c.joined.ensures.joined
+    joined-walls_paired _ _ _ c.joined.result (the_highest g (goal.at.returns-in_ok-high-in-Game-clause-wall_pair g c).In_ok-high-in-Game)
+    c.joined.ensures.joined
 
 pub returns-in_ok-high-in-Game-clause-range : goal.returns-in_ok-high-in-Game-clause-range
 returns-in_ok-high-in-Game-clause-range g c = λ e.

@@ -26,7 +26,8 @@ returns-in_err-wall_pair-clause-range g c = λ e.
     let l = c.len-place-end.ensures in
     let t = c.loop-place-test.true in
     rough_at _ c.loop-place.place (omega (arith, n, k, l, t))
-    (c.wall_pair_at.ensures.range (err_range c.from_residual-in_err-wall_pair.result c.wall_pair_at.result p.0 c.in_err-wall_pair.field-0.0 p.1 p.2 c.in_err-wall_pair.was e))
+    (c.wall_pair_at.ensures.range (err_range c.from_residual-in_err-wall_pair.result c.wall_pair_at.result p.0 c.in_err-wall_pair.field-0.0 p.1 p.2
+    c.in_err-wall_pair.was e))
 
 pub loop-place-preserved : goal.loop-place-preserved
 loop-place-preserved g c =

@@ -22,7 +22,8 @@ on_line : (c : goal.After-toward) → further (to_z w128 c.loop-corner.value-bit
 on_line c =
     ap (λ n. further (to_z w128 c.loop-corner.value-bits) (to_z w128 (of_z w128 c.units-next.result)) n)
     (diff_word (to_z w128 (of_z w128 c.units-time.result)) (to_z w128 c.loop-corner.from-bits)
-    (small_along _ c.units-time.result (small_word c.units-time.result c.units-time.ensures.small) c.units-time.ensures.small) c.loop-corner.invariant.from_small)
+    (small_along _ c.units-time.result (small_word c.units-time.result c.units-time.ensures.small) c.units-time.ensures.small)
+    c.loop-corner.invariant.from_small)
     ∙ wall-ends c.args.items.now c.loop-corner.corner-index (to_z w128 c.loop-corner.value-bits) (to_z w128 c.loop-corner.from-bits)
     (to_z w128 (of_z w128 c.units-time.result)) (to_z w128 (of_z w128 c.units-next.result)) (to_z w128 (of_z w128 c.units-at.result)) _ c.corner-item.result
     c.loop-corner-test.true c.corner-item.is (small_word c.units-next.result c.units-next.ensures.small ∙ c.units-next.ensures.value)

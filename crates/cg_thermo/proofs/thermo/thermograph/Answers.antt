@@ -39,7 +39,8 @@ returns-in_err-wall_pairs-clause-deep g c = λ e.
     let p = err_from_is_err_and c.from_residual-in_err-wall_pairs.result c.from_residual-in_err-wall_pairs.ensures.1 in
     needs-deep _ c.known_game.ensures.in_range
     (rough-needs _ _ (listed g (goal.at.returns-in_err-wall_pairs-clause-deep g c).In_ok-walk)
-    (c.wall_pairs_of.ensures.range (err_range c.from_residual-in_err-wall_pairs.result c.wall_pairs_of.result p.0 c.in_err-wall_pairs.field-0.0 p.1 p.2 c.in_err-wall_pairs.was e)))
+    (c.wall_pairs_of.ensures.range (err_range c.from_residual-in_err-wall_pairs.result c.wall_pairs_of.result p.0 c.in_err-wall_pairs.field-0.0 p.1 p.2
+    c.in_err-wall_pairs.was e)))
 
 pub overflow_sub-len : goal.overflow_sub-len
 overflow_sub-len g c =
@@ -58,16 +59,20 @@ index-wall_pair-requires g c =
     omega (arith, ok, len, count, some)
 
 pub temperature-temp-requires-clause-end : goal.temperature-temp-requires-clause-end
-temperature-temp-requires-clause-end g c = (own g (goal.at.temperature-temp-requires-clause-end g c).After-index-wall_pair (listed g (goal.at.temperature-temp-requires-clause-end g c).In_ok-walk)).draws.soon
+temperature-temp-requires-clause-end g c = (own g (goal.at.temperature-temp-requires-clause-end g c).After-index-wall_pair
+    (listed g (goal.at.temperature-temp-requires-clause-end g c).In_ok-walk)).draws.soon
 
 pub pictured-requires-clause-left : goal.pictured-requires-clause-left
-pictured-requires-clause-left g c = (own g (goal.at.pictured-requires-clause-left g c).After-index-wall_pair (listed g (goal.at.pictured-requires-clause-left g c).In_ok-walk)).draws.left_wall
+pictured-requires-clause-left g c = (own g (goal.at.pictured-requires-clause-left g c).After-index-wall_pair (listed g (goal.at.pictured-requires-clause-left g
+    c).In_ok-walk)).draws.left_wall
 
 pub pictured-requires-clause-right : goal.pictured-requires-clause-right
-pictured-requires-clause-right g c = (own g (goal.at.pictured-requires-clause-right g c).After-index-wall_pair (listed g (goal.at.pictured-requires-clause-right g c).In_ok-walk)).draws.right_wall
+pictured-requires-clause-right g c = (own g (goal.at.pictured-requires-clause-right g c).After-index-wall_pair (listed g (goal.at.pictured-requires-clause-right
+    g c).In_ok-walk)).draws.right_wall
 
 pub pictured-requires-clause-soon : goal.pictured-requires-clause-soon
-pictured-requires-clause-soon g c = (own g (goal.at.pictured-requires-clause-soon g c).After-index-wall_pair (listed g (goal.at.pictured-requires-clause-soon g c).In_ok-walk)).draws.soon
+pictured-requires-clause-soon g c = (own g (goal.at.pictured-requires-clause-soon g c).After-index-wall_pair (listed g (goal.at.pictured-requires-clause-soon g
+    c).In_ok-walk)).draws.soon
 
 drawn : (g : given.Over) (c : In_ok-pictured g) → HasWallPair (game_at (work_state g.S.CellStore.state c.args.work.now) c.args.a) c.index-wall_pair.result.now
     → IsThermograph (game_at (work_state g.S.CellStore.state c.args.work.now) c.args.a) c.in_ok-pictured.field-0

@@ -44,7 +44,8 @@ loop-p-preserved c =
           (corners_after (value_at r) c.next-to.result (c.args.end - c.next-to.result)) (corners (value_at r) c.args.end) c.of-in-loop-p.result
           (point (value_at r) c.next-to.result) c.in_ok-push-2.ensures.items
           (point-is (value_at r) c.next-to.result c.of-in-loop-p.result
-          (c.of-in-loop-p.ensures.value ∙ value_word c.moved-p.result (at-within r c.next-to.result c.moved-p.result c.requires.wall c.moved-p.ensures) ∙ c.moved-p.ensures.value)
+          (c.of-in-loop-p.ensures.value ∙ value_word c.moved-p.result (at-within r c.next-to.result c.moved-p.result c.requires.wall c.moved-p.ensures)
+          ∙ c.moved-p.ensures.value)
           c.of-in-loop-p.ensures.at)
           (corners-turn r c.loop-p.now c.next-to.result c.args.end c.loop-p.p i.place (omega arith) k (omega arith) e) i.all;
     }
@@ -62,7 +63,8 @@ returns c =
           (next_point c.loop-p.points.items c.if-now-end.points.items (corners_after (value_at r) c.loop-p.now (c.args.end - c.loop-p.now)) []
           (corners (value_at r) c.args.end) w.of-then-now-end.result (point (value_at r) c.args.end) e
           (point-is (value_at r) c.args.end w.of-then-now-end.result
-          (w.of-then-now-end.ensures.value ∙ value_word w.moved-last.result (at-within r c.args.end w.moved-last.result c.requires.wall w.moved-last.ensures) ∙ w.moved-last.ensures.value)
+          (w.of-then-now-end.ensures.value ∙ value_word w.moved-last.result (at-within r c.args.end w.moved-last.result c.requires.wall w.moved-last.ensures)
+          ∙ w.moved-last.ensures.value)
           w.of-then-now-end.ensures.at)
           (corners-end r c.loop-p.now c.args.end c.loop-p.p i.place lt (omega arith)) i.all))
       | else-now-end w ↦

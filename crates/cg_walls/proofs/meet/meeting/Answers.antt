@@ -56,7 +56,8 @@ loop-now-preserved c =
     let i = next-after a c.loop-now.now c.loop-now.p c.loop-now-test.true x.one in
     let j = next-after b c.loop-now.now c.loop-now.q c.loop-now-test.true x.two in
     let k = next-below a c.loop-now.now c.loop-now.p x.one in
-    apart-later a b c.loop-now.now c.min-to.result c.gap_at-gap.result c.loop-now.p c.loop-now.q c.moved-p.result c.moved-q.result x t (omega arith) (omega arith)
+    apart-later a b c.loop-now.now c.min-to.result c.gap_at-gap.result c.loop-now.p c.loop-now.q c.moved-p.result c.moved-q.result x t (omega arith)
+    (omega arith)
     (c.gap_at-gap.ensures ∙ sym (gap-here a b c.loop-now.now c.loop-now.p c.loop-now.q x.one x.two))
     (λ h. let e = along c.gap_at-gap.result (c.min-to.result - c.loop-now.now) (fall c.loop-now.p.up c.loop-now.q.up) c.falls-falls.result (sym f) h in
     let n = c.if-gap-falls.false in omega arith)

@@ -8,12 +8,14 @@ use Rattle.cg_walls.proofs.turning.turned.Goals.{then-not-rise, else-not-rise, t
 all-kept : (c : goal.After-of) → c.if-up.turns.items ≡ kept c.args.end c.if-not-rise.first c.args.rise.now.turns.items
 all-kept c =
     let ts = c.args.rise.now.turns.items in
-    let k = kept-last c.args.end c.loop-turn.up ts c.loop-turn.turn-index (let v = ap length c.deref-turn-items.ensures.value in let t = c.loop-turn-test.false in omega arith) in
+    let k = kept-last c.args.end c.loop-turn.up ts c.loop-turn.turn-index (let v = ap length c.deref-turn-items.ensures.value in let t = c.loop-turn-test.false
+    in omega arith) in
     elim c.if-up.branch [
       | then-up+in_ok-push-2 w ↦ (let e : c.if-up.turns.items ≡ c.loop-turn.turns.items ++ c.args.end ∷ [] = rw w.turns-is w.in_ok-push-2.ensures.items in
           e ∙ ap (λ z. c.loop-turn.turns.items ++ z) (sym (k ∙ ap (λ b. cond b (c.args.end ∷ []) []) w.if-up.true)) ∙ c.loop-turn.invariant)
       | else-up w ↦ (let e : c.if-up.turns.items ≡ c.loop-turn.turns.items = rw w.turns-is refl in
-          e ∙ lasts c.loop-turn.turns.items ∙ ap (λ z. c.loop-turn.turns.items ++ z) (sym (k ∙ ap (λ b. cond b (c.args.end ∷ []) []) w.if-up.false)) ∙ c.loop-turn.invariant)
+          e ∙ lasts c.loop-turn.turns.items ∙ ap (λ z. c.loop-turn.turns.items ++ z) (sym (k ∙ ap (λ b. cond b (c.args.end ∷ []) []) w.if-up.false))
+          ∙ c.loop-turn.invariant)
     ]
 
 follows : (c : goal.After-of) → Follows c.args.rise.now c.of.result c.args.end

@@ -16,12 +16,14 @@ event-to-requires-clause-q c = at-within c.args.b.now 0 c.start-q.result c.requi
 
 pub moved-p-requires-clause-later : goal.moved-p-requires-clause-later
 moved-p-requires-clause-later c =
-    let e = event-after c.args.a.now c.args.b.now c.leads-first.result c.loop-to.up c.loop-to.turns.items c.loop-to.now c.loop-to.p c.loop-to.q c.loop-to.invariant.merged in
+    let e = event-after c.args.a.now c.args.b.now c.leads-first.result c.loop-to.up c.loop-to.turns.items c.loop-to.now c.loop-to.p c.loop-to.q
+    c.loop-to.invariant.merged in
     let n = c.loop-to.invariant.next in omega arith
 
 pub moved-q-requires-clause-later : goal.moved-q-requires-clause-later
 moved-q-requires-clause-later c =
-    let e = event-after c.args.a.now c.args.b.now c.leads-first.result c.loop-to.up c.loop-to.turns.items c.loop-to.now c.loop-to.p c.loop-to.q c.loop-to.invariant.merged in
+    let e = event-after c.args.a.now c.args.b.now c.leads-first.result c.loop-to.up c.loop-to.turns.items c.loop-to.now c.loop-to.p c.loop-to.q
+    c.loop-to.invariant.merged in
     let n = c.loop-to.invariant.next in omega arith
 
 pub event-to-requires-in-loop-to-clause-p : goal.event-to-requires-in-loop-to-clause-p
@@ -32,7 +34,8 @@ event-to-requires-in-loop-to-clause-q c = at-within c.args.b.now c.loop-to.to c.
 
 pub loop-to-smaller : goal.loop-to-smaller
 loop-to-smaller c =
-    let e = event-after c.args.a.now c.args.b.now c.leads-first.result c.loop-to.up c.loop-to.turns.items c.loop-to.now c.loop-to.p c.loop-to.q c.loop-to.invariant.merged in
+    let e = event-after c.args.a.now c.args.b.now c.leads-first.result c.loop-to.up c.loop-to.turns.items c.loop-to.now c.loop-to.p c.loop-to.q
+    c.loop-to.invariant.merged in
     let n = c.loop-to.invariant.next in
     let t = c.loop-to-test.true in
     let s : END - c.loop-to.to < END - c.loop-to.now = omega arith in s
@@ -40,7 +43,8 @@ loop-to-smaller c =
 pub loop-to-init : goal.loop-to-init
 loop-to-init c =
     record {
-      merged = rw c.new-turns.ensures.items (merged-none c.args.a.now c.args.b.now c.start-p.result c.start-q.result c.leads-first.result c.start-p.ensures c.start-q.ensures c.leads-first.ensures);
+      merged = rw c.new-turns.ensures.items (merged-none c.args.a.now c.args.b.now c.start-p.result c.start-q.result c.leads-first.result c.start-p.ensures
+          c.start-q.ensures c.leads-first.ensures);
       next = c.event-to.ensures;
     }
 
@@ -54,14 +58,19 @@ loop-to-preserved c =
     record {
       merged = elim c.if-lead-up.branch [
         | then-lead-up+in_ok-push w ↦
-            (let k = merged-turned a b c.leads-first.result c.loop-to.up c.leads-lead.result c.loop-to.turns.items c.loop-to.now c.loop-to.to c.loop-to.p c.loop-to.q
-            c.moved-p.result c.moved-q.result m n lt c.loop-to-test.true c.moved-p.ensures c.moved-q.ensures c.leads-lead.ensures (bool_other c.leads-lead.result c.loop-to.up w.if-lead-up.true) in
+            (let k = merged-turned a b c.leads-first.result c.loop-to.up c.leads-lead.result c.loop-to.turns.items c.loop-to.now c.loop-to.to c.loop-to.p
+            c.loop-to.q
+            c.moved-p.result c.moved-q.result m n lt c.loop-to-test.true c.moved-p.ensures c.moved-q.ensures c.leads-lead.ensures
+            (bool_other c.leads-lead.result c.loop-to.up w.if-lead-up.true) in
             let e : c.if-lead-up.turns.items ≡ c.loop-to.turns.items ++ c.loop-to.to ∷ [] = rw w.turns-is w.in_ok-push.ensures.items in
-            merged-along a b c.leads-first.result c.leads-lead.result c.if-lead-up.up (c.loop-to.turns.items ++ c.loop-to.to ∷ []) c.if-lead-up.turns.items c.loop-to.to
+            merged-along a b c.leads-first.result c.leads-lead.result c.if-lead-up.up (c.loop-to.turns.items ++ c.loop-to.to ∷ []) c.if-lead-up.turns.items
+            c.loop-to.to
             c.moved-p.result c.moved-q.result e w.up-is k)
         | else-lead-up w ↦
-            (let k = merged-same a b c.leads-first.result c.loop-to.up c.leads-lead.result c.loop-to.turns.items c.loop-to.now c.loop-to.to c.loop-to.p c.loop-to.q
-            c.moved-p.result c.moved-q.result m n lt c.loop-to-test.true c.moved-p.ensures c.moved-q.ensures c.leads-lead.ensures (bool_same c.leads-lead.result c.loop-to.up w.if-lead-up.false) in
+            (let k = merged-same a b c.leads-first.result c.loop-to.up c.leads-lead.result c.loop-to.turns.items c.loop-to.now c.loop-to.to c.loop-to.p
+            c.loop-to.q
+            c.moved-p.result c.moved-q.result m n lt c.loop-to-test.true c.moved-p.ensures c.moved-q.ensures c.leads-lead.ensures (bool_same c.leads-lead.result
+            c.loop-to.up w.if-lead-up.false) in
             let e : c.if-lead-up.turns.items ≡ c.loop-to.turns.items = rw w.turns-is refl in
             merged-along a b c.leads-first.result c.loop-to.up c.if-lead-up.up c.loop-to.turns.items c.if-lead-up.turns.items c.loop-to.to
             c.moved-p.result c.moved-q.result e w.up-is k)
@@ -70,13 +79,17 @@ loop-to-preserved c =
     }
 
 pub returns-clause-wall : goal.returns-clause-wall
-returns-clause-wall c = (upper-wall c.args.a.now c.args.b.now c.of.result c.leads-first.result c.loop-to.up c.loop-to.turns.items c.loop-to.now c.loop-to.p c.loop-to.q
+returns-clause-wall c = (upper-wall c.args.a.now c.args.b.now c.of.result c.leads-first.result c.loop-to.up c.loop-to.turns.items c.loop-to.now c.loop-to.p
+    c.loop-to.q
     c.requires.a c.requires.b c.loop-to.invariant.merged (let n = c.loop-to.invariant.next in let t = c.loop-to-test.false in omega arith)
-    (c.of.ensures.start ∙ to_z-of_z w128 c.max.result (record { sfits = c.max.type_inv }) ∙ c.max.ensures.value ∙ max_is _ _ _ _ (start_word c.args.a.now c.requires.a) (start_word c.args.b.now c.requires.b))
+    (c.of.ensures.start ∙ to_z-of_z w128 c.max.result (record { sfits = c.max.type_inv }) ∙ c.max.ensures.value ∙ max_is _ _ _ _ (start_word c.args.a.now
+    c.requires.a) (start_word c.args.b.now c.requires.b))
     c.of.ensures.first c.of.ensures.turns).0
 
 pub returns-clause-value : goal.returns-clause-value
-returns-clause-value c = (upper-wall c.args.a.now c.args.b.now c.of.result c.leads-first.result c.loop-to.up c.loop-to.turns.items c.loop-to.now c.loop-to.p c.loop-to.q
+returns-clause-value c = (upper-wall c.args.a.now c.args.b.now c.of.result c.leads-first.result c.loop-to.up c.loop-to.turns.items c.loop-to.now c.loop-to.p
+    c.loop-to.q
     c.requires.a c.requires.b c.loop-to.invariant.merged (let n = c.loop-to.invariant.next in let t = c.loop-to-test.false in omega arith)
-    (c.of.ensures.start ∙ to_z-of_z w128 c.max.result (record { sfits = c.max.type_inv }) ∙ c.max.ensures.value ∙ max_is _ _ _ _ (start_word c.args.a.now c.requires.a) (start_word c.args.b.now c.requires.b))
+    (c.of.ensures.start ∙ to_z-of_z w128 c.max.result (record { sfits = c.max.type_inv }) ∙ c.max.ensures.value ∙ max_is _ _ _ _ (start_word c.args.a.now
+    c.requires.a) (start_word c.args.b.now c.requires.b))
     c.of.ensures.first c.of.ensures.turns).1

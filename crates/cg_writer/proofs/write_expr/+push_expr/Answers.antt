@@ -7,7 +7,9 @@ use Rattle.cg_query.specs.declared.expr.Expr.{Expr}
 use Rattle.cg_query.specs.declared.expr.Term.{Term}
 use Rattle.cg_query.proofs.TreeOf.{term_tree}
 use Rattle.cg_query.proofs.Walk.{size, term_sizes, size_of_braces, size_of_negative, size_of_multiple, size_of_sum, size_of_item, size_of_term}
-use Rattle.cg_writer.proofs.WrittenSteps.{put_as, put_both, put_none, number_put, ups_put, nimber_put, switch_put, tiny_put, braces_put, negative_put, multiple_put, sum_put, game_put, octal_put, used_put, trees_split, terms_split, side_none, side_first, sum_none, sum_first, no_more_texts, no_more_terms, expr_next, term_next}
+use Rattle.cg_writer.proofs.WrittenSteps.{put_as, put_both, put_none, number_put, ups_put, nimber_put, switch_put, tiny_put, braces_put}
+use Rattle.cg_writer.proofs.WrittenSteps.{negative_put, multiple_put, sum_put, game_put, octal_put, used_put, trees_split, terms_split}
+use Rattle.cg_writer.proofs.WrittenSteps.{side_none, side_first, sum_none, sum_first, no_more_texts, no_more_terms, expr_next, term_next}
 use Rattle.cg_writer.proofs.write_expr.+push_expr.Goals as goal
 
 -- ---- measures
@@ -25,7 +27,8 @@ push_expr-push_negative-requires t c =
 pub push_expr-push_multiple-requires : goal.push_expr-push_multiple-requires
 push_expr-push_multiple-requires t c =
     let b = size_of_multiple c.args.expr.now c.in-Multiple.count c.in-Multiple.inner c.in-Multiple.is in
-    let s : size (tree_of c.deref-in-Multiple.result.now) ≡ size (tree_of c.in-Multiple.inner.value) = ap (λ (x : Expr). size (tree_of x)) c.deref-in-Multiple.ensures in
+    let s : size (tree_of c.deref-in-Multiple.result.now) ≡ size (tree_of c.in-Multiple.inner.value) = ap (λ (x : Expr). size (tree_of x))
+    c.deref-in-Multiple.ensures in
     search rules
 
 pub push_expr-push_sum-requires : goal.push_expr-push_sum-requires
@@ -38,14 +41,17 @@ push_more-push_expr-requires t c =
 
 pub push_sum-push_operand-requires : goal.push_sum-push_operand-requires
 push_sum-push_operand-requires t c =
-    let split = terms_split c.as_slice.result.now (terms_in c.args.terms.now) c.in-Some.first.now c.in-Some.others.now c.as_slice.ensures c.in-Some.ensures.cases.0 in
-    let s : term_sizes (terms_from (terms_in c.args.terms.now)) ≡ size (tree_of c.in-Some.first.now.expr) + term_sizes (terms_from (terms_of c.in-Some.others.now)) = ap (λ (z : List (Bool × Tree)). term_sizes (terms_from z)) split in
+    let split = terms_split c.as_slice.result.now (terms_in c.args.terms.now) c.in-Some.first.now c.in-Some.others.now c.as_slice.ensures
+    c.in-Some.ensures.cases.0 in
+    let s : term_sizes (terms_from (terms_in c.args.terms.now)) ≡ size (tree_of c.in-Some.first.now.expr) + term_sizes
+    (terms_from (terms_of c.in-Some.others.now)) = ap (λ (z : List (Bool × Tree)). term_sizes (terms_from z)) split in
     search rules
 
 pub push_terms-push_operand-requires : goal.push_terms-push_operand-requires
 push_terms-push_operand-requires t c =
     let s = size_of_term c.args.terms.now (terms_of c.args.terms.now) c.loop-term.term-index c.term-item.result refl c.term-item.is c.loop-term-test.true in
-    let e : size (tree_of c.term-item.result.expr) ≡ size (term_of c.term-item.result).1 = ap (λ (p : Bool × Tree). size p.1) (sym (term_tree c.term-item.result.minus c.term-item.result.expr)) in
+    let e : size (tree_of c.term-item.result.expr) ≡ size (term_of c.term-item.result).1 = ap (λ (p : Bool × Tree). size p.1)
+    (sym (term_tree c.term-item.result.minus c.term-item.result.expr)) in
     search rules
 
 -- ---- forms
@@ -107,7 +113,8 @@ push_more-loop-expr-init t c = put_none c.args.text.now.items _ no_more_texts
 pub push_more-loop-expr-preserved : goal.push_more-loop-expr-preserved
 push_more-loop-expr-preserved t c =
     c.in_ok-push_expr.ensures ∙ ap (λ z. z ++ text_of (tree_of c.expr-item.result)) c.in_ok-push.ensures.items
-    ∙ expr_next c.args.exprs.now c.loop-expr.expr-index c.expr-item.result c.args.text.now.items c.loop-expr.text.items c.loop-expr-test.true c.expr-item.is c.loop-expr.invariant
+    ∙ expr_next c.args.exprs.now c.loop-expr.expr-index c.expr-item.result c.args.text.now.items c.loop-expr.text.items c.loop-expr-test.true c.expr-item.is
+    c.loop-expr.invariant
 
 pub push_side-returns-in-None : goal.push_side-returns-in-None
 push_side-returns-in-None t c = put_none c.args.text.now.items _ (side_none (trees_in c.args.exprs.now)
@@ -115,7 +122,8 @@ push_side-returns-in-None t c = put_none c.args.text.now.items _ (side_none (tre
 
 pub push_side-returns-in_ok-push_expr-in-Some : goal.push_side-returns-in_ok-push_expr-in-Some
 push_side-returns-in_ok-push_expr-in-Some t c =
-    let split = trees_split c.as_slice.result.now (trees_in c.args.exprs.now) c.in-Some.first.now c.in-Some.others.now c.as_slice.ensures c.in-Some.ensures.cases.0 in
+    let split = trees_split c.as_slice.result.now (trees_in c.args.exprs.now) c.in-Some.first.now c.in-Some.others.now c.as_slice.ensures
+    c.in-Some.ensures.cases.0 in
     put_both c.push_more.result c.args.text.now.items c.push_expr.new.text.items c.push_more.new.text.items _ _ _
     (side_first (trees_in c.args.exprs.now) (trees_of c.in-Some.others.now) (tree_of c.in-Some.first.now) split)
     c.in_ok-push_expr-in-Some.ensures c.push_more.ensures
@@ -130,7 +138,8 @@ push_terms-loop-term-preserved t c =
     let operand : List ℕ = enclosed_text (is_braces (tree_of c.term-item.result.expr)) (text_of (tree_of c.term-item.result.expr)) in
     c.in_ok-push_operand.ensures
     ∙ ap (λ z. z ++ operand) (c.in_ok-push.ensures.items ∙ ap (λ (b : ℕ). c.loop-term.text.items ++ (b ∷ [])) c.sign.ensures)
-    ∙ term_next c.args.terms.now c.loop-term.term-index c.term-item.result c.args.text.now.items c.loop-term.text.items c.loop-term-test.true c.term-item.is c.loop-term.invariant
+    ∙ term_next c.args.terms.now c.loop-term.term-index c.term-item.result c.args.text.now.items c.loop-term.text.items c.loop-term-test.true c.term-item.is
+    c.loop-term.invariant
 
 pub push_sum-returns-in-None : goal.push_sum-returns-in-None
 push_sum-returns-in-None t c = put_none c.args.text.now.items _ (sum_none (terms_in c.args.terms.now)
@@ -138,7 +147,8 @@ push_sum-returns-in-None t c = put_none c.args.text.now.items _ (sum_none (terms
 
 pub push_sum-returns-in_ok-push_operand-in-Some : goal.push_sum-returns-in_ok-push_operand-in-Some
 push_sum-returns-in_ok-push_operand-in-Some t c =
-    let split = terms_split c.as_slice.result.now (terms_in c.args.terms.now) c.in-Some.first.now c.in-Some.others.now c.as_slice.ensures c.in-Some.ensures.cases.0 in
+    let split = terms_split c.as_slice.result.now (terms_in c.args.terms.now) c.in-Some.first.now c.in-Some.others.now c.as_slice.ensures
+    c.in-Some.ensures.cases.0 in
     put_both c.push_terms.result c.args.text.now.items c.push_operand.new.text.items c.push_terms.new.text.items _ _ _
     (sum_first (terms_in c.args.terms.now) (terms_of c.in-Some.others.now) c.in-Some.first.now.minus (tree_of c.in-Some.first.now.expr) split)
     c.in_ok-push_operand-in-Some.ensures c.push_terms.ensures

@@ -1,7 +1,8 @@
 use Rattle.cg_query.specs.Tree.{number, ups, nimber, switch, tiny, braces, negative, multiple, sum, game, octal, used, terms_from}
 use Rattle.cg_query.specs.Trees.{tree_of, trees_in, terms_in}
 use Rattle.cg_query.specs.declared.expr.Expr.TheVariants as expr
-use Rattle.cg_query.proofs.TreeOf.{number_tree, ups_tree_of, nimber_tree, switch_tree, tiny_tree, braces_tree, negative_tree, multiple_tree, sum_tree, game_tree, octal_tree, used_tree}
+use Rattle.cg_query.proofs.TreeOf.{number_tree, ups_tree_of, nimber_tree, switch_tree, tiny_tree, braces_tree}
+use Rattle.cg_query.proofs.TreeOf.{negative_tree, multiple_tree, sum_tree, game_tree, octal_tree, used_tree}
 use Rattle.cg_writer.proofs.WrittenSteps.{braces_test}
 use Rattle.cg_writer.proofs.write_expr.are_braces.Goals as goal
 

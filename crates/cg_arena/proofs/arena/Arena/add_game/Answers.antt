@@ -9,20 +9,23 @@ use Rattle.cg_arena.proofs.arena.Arena.add_game.Goals as goal
 
 pub invariant_of-self-in_err-extend_from_slice-2 : goal.invariant_of-self-in_err-extend_from_slice-2
 invariant_of-self-in_err-extend_from_slice-2 c =
-    (same_indexes c.self.inside.options.items c.args.lefts.now c.extend_from_slice-2.new.self.items c.self.inside.entries.items c.self.inside.summaries.items c.args.self.now
+    (same_indexes c.self.inside.options.items c.args.lefts.now c.extend_from_slice-2.new.self.items c.self.inside.entries.items c.self.inside.summaries.items
+    c.args.self.now
     (c.in_err-extend_from_slice-2.ensures.items ∙ c.in_ok-extend_from_slice.ensures.items) c.self.invariant c.self.view_is).0
 
 pub returns-in_err-extend_from_slice-2-clause-same : goal.returns-in_err-extend_from_slice-2-clause-same
 returns-in_err-extend_from_slice-2-clause-same c =
     always_on_err c.from_residual-in_err-extend_from_slice-2.result _
-    (same_indexes c.self.inside.options.items c.args.lefts.now c.extend_from_slice-2.new.self.items c.self.inside.entries.items c.self.inside.summaries.items c.args.self.now
+    (same_indexes c.self.inside.options.items c.args.lefts.now c.extend_from_slice-2.new.self.items c.self.inside.entries.items c.self.inside.summaries.items
+    c.args.self.now
     (c.in_err-extend_from_slice-2.ensures.items ∙ c.in_ok-extend_from_slice.ensures.items) c.self.invariant c.self.view_is).1
 
 unpushed : (c : goal.After-from_residual-in_err-add) → IsArena c.extend_from_slice-2.new.self.items c.add.new.entries.items c.add.new.summaries.items
     × (said_by c.extend_from_slice-2.new.self.items [] (zip c.add.new.entries.items c.add.new.summaries.items) ≡ c.args.self.now)
 unpushed c =
     let all = c.extend_from_slice-2.new.self.items in
-    let more = same_indexes c.self.inside.options.items (c.args.lefts.now ++ c.args.rights.now) all c.self.inside.entries.items c.self.inside.summaries.items c.args.self.now
+    let more = same_indexes c.self.inside.options.items (c.args.lefts.now ++ c.args.rights.now) all c.self.inside.entries.items c.self.inside.summaries.items
+    c.args.self.now
     (c.in_ok-extend_from_slice-2.ensures.items ∙ ap (λ z. z ++ c.args.rights.now) c.in_ok-extend_from_slice.ensures.items
     ∙ append_assoc c.self.inside.options.items c.args.lefts.now c.args.rights.now) c.self.invariant c.self.view_is in
     let P : List Entry → Type 0 = λ z. IsArena all z c.self.inside.summaries.items × (said_by all [] (zip z c.self.inside.summaries.items) ≡ c.args.self.now) in
@@ -59,11 +62,13 @@ pushed c =
     let middle : c.len-first.result + length ls ≡ length (opts ++ ls) = search rules in
     let end : c.len-first.result + length ls + length rs ≡ length ((opts ++ ls) ++ rs) = search rules in
     let e : all ≡ (opts ++ ls) ++ rs = c.in_ok-extend_from_slice-2.ensures.items ∙ ap (λ z. z ++ rs) c.in_ok-extend_from_slice.ensures.items in
-    let more = same_indexes opts (ls ++ rs) all c.self.inside.entries.items c.self.inside.summaries.items gs (e ∙ append_assoc opts ls rs) c.self.invariant c.self.view_is in
+    let more = same_indexes opts (ls ++ rs) all c.self.inside.entries.items c.self.inside.summaries.items gs (e ∙ append_assoc opts ls rs) c.self.invariant
+    c.self.view_is in
     let A : List ℕ → Type 0 = λ z. Adds z gs (entry_of c) c.args.summary.now g in
     let adds = subst A (sym e) (adds_game opts ls rs gs (entry_of c) c.args.summary.now refl first middle end c.requires.lefts c.requires.rights
     c.requires.canonical c.requires.summary c.of.ensures) in
-    one_entry all c.self.inside.entries.items c.add.new.entries.items c.self.inside.summaries.items c.add.new.summaries.items gs (entry_of c) c.args.summary.now g
+    one_entry all c.self.inside.entries.items c.add.new.entries.items c.self.inside.summaries.items c.add.new.summaries.items gs (entry_of c) c.args.summary.now
+    g
     more.0 more.1 adds c.in_ok-add.ensures.entries c.in_ok-add.ensures.summaries c.requires.few
 
 pub invariant_of-self-2 : goal.invariant_of-self-2

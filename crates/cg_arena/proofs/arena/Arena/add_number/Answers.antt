@@ -21,8 +21,10 @@ pushed c =
     let opts = c.self.inside.options.items in
     let e : c.len-end.result ≡ length opts = search rules in
     let adds : Adds opts c.args.self.now (entry_of c) c.number-summary.result (number c.args.x) =
-    adds_number opts c.args.self.now (entry_of c) c.number-summary.result c.args.x refl c.number-summary.ensures.at e e e c.number-summary.ensures.summary c.of.ensures in
-    one_entry opts c.self.inside.entries.items c.add.new.entries.items c.self.inside.summaries.items c.add.new.summaries.items c.args.self.now (entry_of c) c.number-summary.result
+    adds_number opts c.args.self.now (entry_of c) c.number-summary.result c.args.x refl c.number-summary.ensures.at e e e c.number-summary.ensures.summary
+    c.of.ensures in
+    one_entry opts c.self.inside.entries.items c.add.new.entries.items c.self.inside.summaries.items c.add.new.summaries.items c.args.self.now (entry_of c)
+    c.number-summary.result
     (number c.args.x) c.self.invariant c.self.view_is adds c.in_ok-add.ensures.entries c.in_ok-add.ensures.summaries c.requires.few
 
 pub invariant_of-self-2 : goal.invariant_of-self-2

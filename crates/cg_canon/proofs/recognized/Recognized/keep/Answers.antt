@@ -13,6 +13,7 @@ returns-then-is_err c gs k r =
 pub returns : goal.returns
 returns c gs k r =
     let t = c.args.self.now in
-    recognized_kept gs t (record { games = c.push.new.self; marks = _; by_parts = c.add.new.self; nimbers = c.keep_nimber.new.nimbers }) c.args.index c.args.parts k
+    recognized_kept gs t (record { games = c.push.new.self; marks = _; by_parts = c.add.new.self; nimbers = c.keep_nimber.new.nimbers }) c.args.index
+    c.args.parts k
     (pushed (is_ok c.push.result) c.push.new.self.items t.games.items (known_at c.args.index c.args.parts) c.push.ensures.items)
     (c.keep_nimber.ensures gs k (recognized_nimbers gs t r)) r

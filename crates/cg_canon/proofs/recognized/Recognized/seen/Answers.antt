@@ -17,4 +17,5 @@ returns-then-is_one c gs r =
     let ns = c.args.self.now.nimbers.items in
     let two : 1 < length ns = omega (arith, c.if-len-gt1.true, c.len-then-count-eq1.ensures) in
     up_seen gs c.args.self.now c.args.lefts.now c.args.rights.now c.up.result r (omega arith) two front
-    (c.is_one.ensures c.if-is_one.true ∙ ap (λ z. z ∷ []) (c.index.ensures ∙ get_or_default ns 1 c.index.result.now 0 two)) c.up.ensures.number c.up.ensures.ups c.up.ensures.star
+    (c.is_one.ensures c.if-is_one.true ∙ ap (λ z. z ∷ []) (c.index.ensures ∙ get_or_default ns 1 c.index.result.now 0 two)) c.up.ensures.number c.up.ensures.ups
+    c.up.ensures.star

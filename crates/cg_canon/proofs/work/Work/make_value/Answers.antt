@@ -16,8 +16,10 @@ make_canonical-requires-clause-rights g c =
 
 pub invariant_of-self : goal.invariant_of-self
 invariant_of-self g c =
-    paid_holds (g.S.CellStore.state c.self.inside.store.now) (g.S.CellStore.state c.make_canonical.new.store) c.self.inside.meter c.make_canonical.new.meter c.self.inside.start
-    c.self.inside.cache (record { interner = c.make_canonical.new.interner; sums = c.self.inside.cache.memo.sums; places = c.self.inside.cache.memo.places }) _ c.args.extra _ c.self.invariant
+    paid_holds (g.S.CellStore.state c.self.inside.store.now) (g.S.CellStore.state c.make_canonical.new.store) c.self.inside.meter c.make_canonical.new.meter
+    c.self.inside.start
+    c.self.inside.cache (record { interner = c.make_canonical.new.interner; sums = c.self.inside.cache.memo.sums; places = c.self.inside.cache.memo.places }) _
+    c.args.extra _ c.self.invariant
     c.make_canonical.ensures.paid c.make_canonical.ensures.holds refl
 
 pub returns : goal.returns
@@ -25,7 +27,14 @@ returns g c =
     let W = g.S.CellStore.state in
     let store = record c.self.inside.store { now = c.make_canonical.new.store } in
     let meter = c.make_canonical.new.meter in
-    let t = work_state W (record { store = store; spent = meter.spent; share = meter.share; start = c.self.inside.start; limit = c.self.inside.limit; arena = c.make_canonical.new.interner.arena }) in
+    let t = work_state W (record {
+      store = store;
+      spent = meter.spent;
+      share = meter.share;
+      start = c.self.inside.start;
+      limit = c.self.inside.limit;
+      arena = c.make_canonical.new.interner.arena;
+    }) in
     rw (← c.self.view_is) (paid_item W c.self.inside.store store c.self.inside.meter meter c.self.inside.start c.self.inside.limit
     c.self.inside.cache.memo.interner.arena c.make_canonical.new.interner.arena _ c.args.extra _
     c.make_canonical.ensures.paid.given refl c.self.invariant.0.enough)

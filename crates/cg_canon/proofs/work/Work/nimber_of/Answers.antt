@@ -18,5 +18,6 @@ returns g c =
     let W = work_state g.S.CellStore.state in
     let s = g.S.CellStore.state c.self.inside.store.now in
     let P : WorkOf _ → Type 0 = λ w. StandsFor (W w) c.args.a (game_of w.arena c.in_ok-index.index) in
-    let stands = subst P c.self.view_is (named_stands s c.self.inside.cache.memo.interner c.args.a c.in_ok-index.index c.self.invariant.1.interner c.in_ok-index.ensures.index) in
+    let stands = subst P c.self.view_is (named_stands s c.self.inside.cache.memo.interner c.args.a c.in_ok-index.index c.self.invariant.1.interner
+    c.in_ok-index.ensures.index) in
     IfSome_then c.nimber_at.result c.nimber_at.ensures (λ n e. stands ∙ ap (λ z. Some (form z)) e)

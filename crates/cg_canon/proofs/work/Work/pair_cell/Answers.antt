@@ -5,5 +5,6 @@ use Rattle.cg_canon.proofs.work.Work.pair_cell.Goals as goal
 pub invariant_of-self : goal.invariant_of-self
 invariant_of-self g c =
     let spare = rw (← c.self.view_is) at c.requires.spare in
-    work_later 1 (g.S.CellStore.state c.self.inside.store.now) (g.S.CellStore.state c.pair.new.store) c.self.inside.meter.spent c.self.inside.meter.share c.self.inside.start c.self.inside.cache
+    work_later 1 (g.S.CellStore.state c.self.inside.store.now) (g.S.CellStore.state c.pair.new.store) c.self.inside.meter.spent c.self.inside.meter.share
+    c.self.inside.start c.self.inside.cache
     c.self.invariant c.pair.ensures.spends (omega (arith, spare))

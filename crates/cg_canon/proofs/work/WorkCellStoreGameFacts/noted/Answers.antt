@@ -5,5 +5,6 @@ use Rattle.cg_canon.proofs.work.WorkCellStoreGameFacts.noted.Goals as goal
 pub invariant_of-self : goal.invariant_of-self
 invariant_of-self g c =
     let room = c.self.invariant.0.enough in
-    work_later 0 (g.S.CellStore.state c.self.inside.store.now) (g.S.CellStore.state c.noted.new.self) c.self.inside.meter.spent c.self.inside.meter.share c.self.inside.start c.self.inside.cache
+    work_later 0 (g.S.CellStore.state c.self.inside.store.now) (g.S.CellStore.state c.noted.new.self) c.self.inside.meter.spent c.self.inside.meter.share
+    c.self.inside.start c.self.inside.cache
     c.self.invariant c.noted.ensures.spends (omega arith)

@@ -2,7 +2,8 @@ use Rattle.std.proofs.Common.{◌≡◌, ◌∙◌, Ok, Err, None, inl, inr, ap,
 use Rattle.cg_reading.specs.Readers.{whole_at}
 use Rattle.cg_graph.specs.ColouredGraphs.{vertices_fault}
 use Rattle.cg_graph.specs.Reading.{pairs_at}
-use Rattle.cg_graph.proofs.ColouredReadings.{cause_uncoloured, err_uncoloured, ok_coloured, pairs_left, pairs_take, said_err, said_ok, stuck_cause, uncoloured_is, vertices_cause}
+use Rattle.cg_graph.proofs.ColouredReadings.{cause_uncoloured, err_uncoloured, ok_coloured, pairs_left, pairs_take}
+use Rattle.cg_graph.proofs.ColouredReadings.{said_err, said_ok, stuck_cause, uncoloured_is, vertices_cause}
 use Rattle.cg_graph.proofs.Places.{pairs_are}
 use Rattle.cg_graph.proofs.coloured_graph.Colouring.read.Goals as goal
 

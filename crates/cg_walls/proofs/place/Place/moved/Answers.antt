@@ -13,7 +13,8 @@ pub returns-then-to-lt-END : goal.returns-then-to-lt-END
 returns-then-to-lt-END c =
     let e : next_of c.args.rise.now c.args.self.now ≡ c.args.to = sym c.next.ensures ∙ c.if-next-to.true in
     at-turn c.args.rise.now c.args.now c.args.to c.args.self.now c.of.result c.requires.at c.requires.later e c.if-to-lt-END.true
-    (c.of.ensures.value ∙ to_z-of_z w128 c.climbed-value.result (record { sfits = c.climbed-value.type_inv }) ∙ c.climbed-value.ensures) c.of.ensures.up c.of.ensures.passed
+    (c.of.ensures.value ∙ to_z-of_z w128 c.climbed-value.result (record { sfits = c.climbed-value.type_inv }) ∙ c.climbed-value.ensures) c.of.ensures.up
+    c.of.ensures.passed
 
 pub returns-else-next-to : goal.returns-else-next-to
 returns-else-next-to c =
@@ -22,4 +23,5 @@ returns-else-next-to c =
       | else-next-to-via-then-next-to+else-to-lt-END w ↦ absurd (let n = w.if-to-lt-END.false in omega arith)
       | else-next-to-via-else-next-to w ↦ w.if-next-to.false (c.next.ensures ∙ e)
     ])
-    (c.of-else-next-to.ensures.value ∙ to_z-of_z w128 c.climbed-value.result (record { sfits = c.climbed-value.type_inv }) ∙ c.climbed-value.ensures) c.of-else-next-to.ensures.up c.of-else-next-to.ensures.passed
+    (c.of-else-next-to.ensures.value ∙ to_z-of_z w128 c.climbed-value.result (record { sfits = c.climbed-value.type_inv }) ∙ c.climbed-value.ensures)
+    c.of-else-next-to.ensures.up c.of-else-next-to.ensures.passed
