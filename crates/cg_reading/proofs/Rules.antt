@@ -1,13 +1,13 @@
 -- The laws of the combinators, with the pieces found by antt.
-use Rattle.std.proofs.Common.{◌≡◌, ℕ, ◌+◌, inl, inr, Bool, true, false, ◌&&◌, cond, ◌++◌, length, refl}
+use Rattle.std.proofs.Common.{◌≡◌, ℕ, ◌+◌, inl, inr, Bool, true, false, ◌&&◌, cond, ◌++◌, length}
 use Rattle.cg_reading.specs.Bytes.{Class}
 use Rattle.cg_reading.specs.Pieces.{Piece, Then, Or, Many, Made, Placed}
 use Rattle.cg_reading.specs.Readers.{Reader, then_at, or_at, many_at, made_at, placed_at}
-use Rattle.cg_reading.proofs.ByteRuns.{placed_lawful}
 use Rattle.cg_reading.proofs.Laws.{Lawful, Some_text}
 use Rattle.cg_reading.proofs.Many.{many_lawful}
 use Rattle.cg_reading.proofs.Sets.{apart, inside, wider_begins, wider_ends}
-use Rattle.cg_reading.proofs.Steps.{made_lawful, or_lawful, then_lawful}
+use Rattle.cg_reading.proofs.Steps.{made_lawful, or_lawful, placed_lawful, then_lawful}
+use Rattle.cg_reading.proofs.Spelled.{then_is, made_is}
 
 -- ---- the same, with the pieces found by antt
 
@@ -27,10 +27,10 @@ pub placed_ok : {A : Type 0} {R : Piece A} {f : Reader A} {I : Class} {e : Bool}
 placed_ok {A} {R} {f} {I} {e} {F} lf = placed_lawful R f I e F lf
 
 pub then_text : {A B : Type 0} {R : Piece A} {S : Piece B} (j : ℕ) → Some_text R j → ((k : ℕ) → Some_text S k) → Some_text (Then R S) j
-then_text j r s = let t = s (j + length r.text) in record { value = (r.value, t.value); text = r.text ++ t.text; is = record { before = r.text; behind = t.text; first = r.is; second = t.is; spelled = refl } }
+then_text j r s = let t = s (j + length r.text) in record { value = (r.value, t.value); text = r.text ++ t.text; is = then_is r.text t.text r.is t.is }
 
 pub made_text : {A B : Type 0} {R : Piece A} (h : A → B) (j : ℕ) → Some_text R j → Some_text (Made h R) j
-made_text h j r = record { value = h r.value; text = r.text; is = record { made_of = r.value; is = r.is; same = refl } }
+made_text h j r = record { value = h r.value; text = r.text; is = made_is r.value r.is }
 
 pub left_text : {A : Type 0} {R S : Piece A} (j : ℕ) → Some_text R j → Some_text (Or R S) j
 left_text j r = record { value = r.value; text = r.text; is = inl r.is }
