@@ -8,7 +8,7 @@ use Rattle.cg_reading.proofs.ByteRuns.{bytes_lawful}
 use Rattle.cg_reading.proofs.Laws.{Again, Alive, Lawful, Outcome, Reads, Some_text, Takes, again_then, behind, begun_as, begun_on}
 use Rattle.cg_reading.proofs.Laws.{first_place, second_place, takes_as, joined}
 use Rattle.cg_reading.proofs.Sets.{apart, apart_has, ends_left, ends_right, inside, last_ends, next_ends, no_class, wider_begins, wider_ends}
-use Rattle.cg_reading.proofs.Steps.{choose_left, choose_right, made_reads, nothing_lawful, or_reads, placed_lawful, second_at, then_agree, then_begins, then_sound}
+use Rattle.cg_reading.proofs.Steps.{made_reads, nothing_lawful, or_reads, placed_reads, second_at, then_agree, then_begins, then_reads}
 
 -- ---- tokens that are as long as possible
 
@@ -47,6 +47,9 @@ plain_token {A} {R} {f} lf = record {
   again = λ end i a text rest is h k n. lf.again end i a text rest is h n;
 }
 
+pub plain_lawful : {A : Type 0} {R : Piece A} {f : Reader A} {I : Class} {e : Bool} {F : Class} → Token R f I e F (λ _. []) → Lawful R f I e F
+plain_lawful t = record { reads = t.reads; again = λ end i a text rest is h n. t.again end i a text rest is h (no_class rest) n }
+
 pub nothing_token : {A : Type 0} (v : A) (K : A → Class) → K v ≡ [] → Token (Nothing v) (nothing_at v) [] true [] K
 nothing_token v K h =
     let l = nothing_lawful v in
@@ -69,10 +72,10 @@ full_placed : {A : Type 0} (K : A → Class) (j : ℕ) (x : Read A) → Full K x
 full_placed K j (Ok v) k = k
 full_placed K j (Err n) k = tt
 
-pub placed_token : {A : Type 0} {R : Piece A} {f : Reader A} {I : Class} {e : Bool} {F : Class} {K : A → Class} (C : Class)
-    → ((a : A) → inside (K a) C ≡ true) → Token R f I e F K → Token (Placed R) (placed_at f) I e F (λ v. K v.1)
-placed_token {A} {R} {f} {I} {e} {F} {K} C b t = record {
-  reads = (placed_lawful R f I e (F ++ C) (token_ok C t b)).reads;
+pub placed_token : {A : Type 0} {R : Piece A} {f : Reader A} {I : Class} {e : Bool} {F : Class} {K : A → Class}
+    → Token R f I e F K → Token (Placed R) (placed_at f) I e F (λ v. K v.1)
+placed_token {A} {R} {f} {I} {e} {F} {K} t = record {
+  reads = placed_reads R f I e F t.reads;
   full = λ end bytes. full_placed K (end - length bytes) (f end bytes) (t.full end bytes);
   again = λ end i v text rest is h k n.
       let j : end - length (text ++ rest) ≡ v.0 = omega (arith, is.0) in
@@ -98,6 +101,23 @@ pub made_full : {A B : Type 0} {R : Piece A} {f : Reader A} {I : Class} {e : Boo
 made_full {A} {B} {R} {f} {I} {e} {F} h K t = made_token h K R f I e F t
 
 module _ {A : Type 0} (K : A → Class) (R S : Piece A) (f g : Reader A) (I J : Class) (e : Bool) (F G : Class) where
+  -- what is read first is read by the choice, and what is read second
+  choose_left : (end : ℕ) (a : A) (text rest : List ℕ) → Begins I false text → f end (text ++ rest) ≡ Ok (a, rest)
+      → or_at I f g end (text ++ rest) ≡ Ok (a, rest)
+  choose_left end a [] rest b k = absurd cc
+  choose_left end a (x ∷ text) rest b k = rw b k
+
+  choose_none : (end : ℕ) (a : A) (rest : List ℕ) → Ends I rest → g end rest ≡ Ok (a, rest) → or_at I f g end rest ≡ Ok (a, rest)
+  choose_none end a [] h k = k
+  choose_none end a (x ∷ rest) h k = rw h k
+
+  choose_right : (end : ℕ) (a : A) (text rest : List ℕ) → apart J I ≡ true → Begins J e text → Ends (cond e (I ++ (F ++ G)) (F ++ G)) rest
+      → g end (text ++ rest) ≡ Ok (a, rest) → or_at I f g end (text ++ rest) ≡ Ok (a, rest)
+  choose_right end a [] rest d b h k =
+      let h' : Ends (I ++ (F ++ G)) rest = subst (λ (x : Bool). Ends (cond x (I ++ (F ++ G)) (F ++ G)) rest) b h in
+      choose_none end a rest (ends_left I (F ++ G) rest h') k
+  choose_right end a (x ∷ text) rest d b h k = rw (apart_has J I x d b) k
+
   cond_full : (x y : Read A) (t : Bool) → Full K x → Full K y → Full K (cond t x y)
   cond_full x y true h k = h
   cond_full x y false h k = k
@@ -108,10 +128,10 @@ module _ {A : Type 0} (K : A → Class) (R S : Piece A) (f g : Reader A) (I J : 
 
   or_token_again : Token R f I false F K → Token S g J e G K → apart J I ≡ true → Again_full (Or R S) (or_at I f g) (cond e (I ++ (F ++ G)) (F ++ G)) K
   or_token_again lf lg d end i a text rest (inl is) h k n =
-      choose_left R S f g I J e F G end a text rest (lf.begins i a text is)
+      choose_left end a text rest (lf.begins i a text is)
       (lf.again end i a text rest is (ends_left F G rest (last_ends I (F ++ G) e rest h)) k n)
   or_token_again lf lg d end i a text rest (inr is) h k n =
-      choose_right R S f g I J e F G end a text rest d (lg.begins i a text is) h
+      choose_right end a text rest d (lg.begins i a text is) h
       (lg.again end i a text rest is (ends_right F G rest (last_ends I (F ++ G) e rest h)) k n)
 
   or_token : Token R f I false F K → Token S g J e G K → apart J I ≡ true → Token (Or R S) (or_at I f g) (I ++ J) e (cond e (I ++ (F ++ G)) (F ++ G)) K
@@ -143,11 +163,7 @@ module _ {A B : Type 0} (K : B → Class) (R : Piece A) (S : Piece B) (f : Reade
   then_token : Lawful R f I d F → Token S g J e G K → ((j : ℕ) → Some_text S j) → apart J F ≡ true
       → Token (Then R S) (then_at f g) (cond d (I ++ J) I) (d && e) (cond e (F ++ G) G) (λ v. K v.1)
   then_token lf lg w a = record {
-    reads = record {
-      sound = then_sound R S f g I J d e F G lf.reads lg.reads w;
-      agree = then_agree R S f g I J d e F G lf.reads lg.reads;
-      begins = λ i v text is. then_begins R S f g I J d e F G lf.reads lg.reads i v is.before is.behind text is.first is.second is.spelled;
-    };
+    reads = then_reads R S f g I J d e F G lf.reads lg.reads w;
     full = λ end bytes. full_then end (f end bytes) (lg.full end);
     again = then_token_again lf lg a;
   }

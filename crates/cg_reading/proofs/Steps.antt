@@ -1,13 +1,13 @@
 -- One piece and then another, either of two, a function of one, nothing, and the column where a piece starts.
 use Rattle.std.proofs.Common.{◌≡◌, ℕ, ◌+◌, ◌-◌, ◌≤◌, ◌⊎◌, inl, inr, Bool, true, false, ◌&&◌, cond, List, [], ◌∷◌, ◌++◌}
-use Rattle.std.proofs.Common.{length, Ok, Err, refl, ap, sym, subst, ◌∙◌, arith}
-use Rattle.cg_reading.specs.Bytes.{Class, has, Ends, Begins}
+use Rattle.std.proofs.Common.{length, Ok, Err, refl, sym, subst, ◌∙◌, arith}
+use Rattle.cg_reading.specs.Bytes.{Class, has, Begins}
 use Rattle.cg_reading.specs.Pieces.{Piece, Then, Or, Made, Nothing, Placed}
 use Rattle.cg_reading.specs.Readers.{Read, Reader, ◌>>=◌, then_at, or_at, made_at, nothing_at, placed_at}
-use Rattle.cg_reading.proofs.Laws.{kept, Again, Agree, Agrees, Alive, Lawful, Outcome, Reads, Some_text, Sound, Takes, behind}
-use Rattle.cg_reading.proofs.Laws.{again_then, first_place, second_place, begun_on, begun_to, takes_none, takes_to, taken_made, then_agrees}
+use Rattle.cg_reading.proofs.Laws.{kept, Agree, Agrees, Alive, Lawful, Outcome, Reads, Some_text, Sound, Takes, behind}
+use Rattle.cg_reading.proofs.Laws.{begun_on, begun_to, takes_none, takes_to, taken_made, then_agrees}
 use Rattle.cg_reading.proofs.Laws.{bind_sound, cond_agree, cond_sound, left, left_made, made_agree, made_sound, outcome_left, said_sound}
-use Rattle.cg_reading.proofs.Sets.{apart, apart_has, both_begin, ends_left, ends_right, has_left, has_right, last_ends, next_ends}
+use Rattle.cg_reading.proofs.Sets.{both_begin, has_left, has_right}
 use Rattle.cg_reading.proofs.Spelled.{made_is, then_is}
 
 -- ---- one piece and then another
@@ -37,30 +37,16 @@ module _ {A B : Type 0} (R : Piece A) (S : Piece B) (f : Reader A) (g : Reader B
       less : (stop j : ℕ) (a : A) (s : List ℕ) → j + length s ≡ stop → left {A = A × B} (second_at stop (a, s)) ≤ length s
       less stop j a s n = omega (arith, outcome_left S j s (g stop s) (lg.sound stop j s n), left_made {B = A × B} (g stop s) (λ y. (a, y)))
 
-  then_again : Lawful R f I d F → Lawful S g J e G → apart J F ≡ true → Again (Then R S) (then_at f g) (λ _ rest. Ends (cond e (F ++ G) G) rest)
-  then_again lf lg a end i v text rest is h n =
-      let x = is.before in
-      let y = is.behind in
-      let next : Ends F (y ++ rest) = next_ends J F G e y rest a (lg.begins (i + length x) v.1 y is.second) h in
-      again_then i end x y text rest is.spelled n f (second_at end) v.0 v
-      (lf.again end i v.0 x (y ++ rest) is.first next (first_place i end x y text rest is.spelled n))
-      (ap (λ z. z >>= λ y. Ok ((v.0, y.0), y.1))
-      (lg.again end (i + length x) v.1 y rest is.second (last_ends F G e rest h) (second_place i end x y text rest is.spelled n)))
-
   pub then_begins : Reads R f I d → Reads S g J e → (i : ℕ) (v : A × B) (x y text : List ℕ) → R i v.0 x → S (i + length x) v.1 y → text ≡ x ++ y
       → Begins (cond d (I ++ J) I) (d && e) text
   then_begins lf lg i v x y text first second spelled =
       subst (Begins (cond d (I ++ J) I) (d && e)) (sym spelled) (both_begin I J d e x y (lf.begins i v.0 x first) (lg.begins (i + length x) v.1 y second))
 
-  pub then_lawful : Lawful R f I d F → Lawful S g J e G → ((j : ℕ) → Some_text S j) → apart J F ≡ true
-      → Lawful (Then R S) (then_at f g) (cond d (I ++ J) I) (d && e) (cond e (F ++ G) G)
-  then_lawful lf lg w a = record {
-    reads = record {
-      sound = then_sound lf.reads lg.reads w;
-      agree = then_agree lf.reads lg.reads;
-      begins = λ i v text is. then_begins lf.reads lg.reads i v is.before is.behind text is.first is.second is.spelled;
-    };
-    again = then_again lf lg a;
+  pub then_reads : Reads R f I d → Reads S g J e → ((j : ℕ) → Some_text S j) → Reads (Then R S) (then_at f g) (cond d (I ++ J) I) (d && e)
+  then_reads lf lg w = record {
+    sound = then_sound lf lg w;
+    agree = then_agree lf lg;
+    begins = λ i v text is. then_begins lf lg i v is.before is.behind text is.first is.second is.spelled;
   }
 
 -- ---- either piece
@@ -83,30 +69,6 @@ module _ {A : Type 0} (R S : Piece A) (f g : Reader A) (I J : Class) (e : Bool) 
       cond_agree c q r (f end x) (g end x) (f last y) (g last y) (has I b)
       (lf.agree end last i (b ∷ p) c q r m n) (lg.agree end last i (b ∷ p) c q r m n)
 
-  -- what is read first is read by the choice, and what is read second
-  pub choose_left : (end : ℕ) (a : A) (text rest : List ℕ) → Begins I false text → f end (text ++ rest) ≡ Ok (a, rest)
-      → or_at I f g end (text ++ rest) ≡ Ok (a, rest)
-  choose_left end a [] rest b k = absurd cc
-  choose_left end a (x ∷ text) rest b k = rw b k
-
-  choose_none : (end : ℕ) (a : A) (rest : List ℕ) → Ends I rest → g end rest ≡ Ok (a, rest) → or_at I f g end rest ≡ Ok (a, rest)
-  choose_none end a [] h k = k
-  choose_none end a (x ∷ rest) h k = rw h k
-
-  pub choose_right : (end : ℕ) (a : A) (text rest : List ℕ) → apart J I ≡ true → Begins J e text → Ends (cond e (I ++ (F ++ G)) (F ++ G)) rest
-      → g end (text ++ rest) ≡ Ok (a, rest) → or_at I f g end (text ++ rest) ≡ Ok (a, rest)
-  choose_right end a [] rest d b h k =
-      let h' : Ends (I ++ (F ++ G)) rest = subst (λ (x : Bool). Ends (cond x (I ++ (F ++ G)) (F ++ G)) rest) b h in
-      choose_none end a rest (ends_left I (F ++ G) rest h') k
-  choose_right end a (x ∷ text) rest d b h k = rw (apart_has J I x d b) k
-
-  or_again : Lawful R f I false F → Lawful S g J e G → apart J I ≡ true → Again (Or R S) (or_at I f g) (λ _ rest. Ends (cond e (I ++ (F ++ G)) (F ++ G)) rest)
-  or_again lf lg d end i a text rest (inl is) h n =
-      choose_left end a text rest (lf.begins i a text is) (lf.again end i a text rest is (ends_left F G rest (last_ends I (F ++ G) e rest h)) n)
-  or_again lf lg d end i a text rest (inr is) h n =
-      choose_right end a text rest d (lg.begins i a text is) h
-      (lg.again end i a text rest is (ends_right F G rest (last_ends I (F ++ G) e rest h)) n)
-
   either_begins : (text : List ℕ) → (Begins I false text) ⊎ (Begins J e text) → Begins (I ++ J) e text
   either_begins [] (inl b) = absurd cc
   either_begins [] (inr b) = b
@@ -120,10 +82,6 @@ module _ {A : Type 0} (R S : Piece A) (f g : Reader A) (I J : Class) (e : Bool) 
   pub or_reads : Reads R f I false → Reads S g J e → Reads (Or R S) (or_at I f g) (I ++ J) e
   or_reads lf lg = record { sound = or_sound lf lg; agree = or_agree lf lg; begins = or_begins lf lg }
 
-  pub or_lawful : Lawful R f I false F → Lawful S g J e G → apart J I ≡ true
-      → Lawful (Or R S) (or_at I f g) (I ++ J) e (cond e (I ++ (F ++ G)) (F ++ G))
-  or_lawful lf lg d = record { reads = or_reads lf.reads lg.reads; again = or_again lf lg d }
-
 -- ---- a function of the value
 
 module _ {A B : Type 0} (h : A → B) (R : Piece A) (f : Reader A) (I : Class) (e : Bool) (F : Class) where
@@ -132,13 +90,6 @@ module _ {A B : Type 0} (h : A → B) (R : Piece A) (f : Reader A) (I : Class) (
     sound = λ end i bytes n. made_sound R (Made h R) h i bytes (f end bytes) (λ a text is. made_is a is) (lf.sound end i bytes n);
     agree = λ end last i p c q r m n. made_agree h c q r (f end (p ++ c ∷ q)) (f last (p ++ c ∷ r)) (lf.agree end last i p c q r m n);
     begins = λ i b text is. lf.begins i is.made_of text is.is;
-  }
-
-  pub made_lawful : Lawful R f I e F → Lawful (Made h R) (made_at h f) I e F
-  made_lawful lf = record {
-    reads = made_reads lf.reads;
-    again = λ end i b text rest is follow n.
-        ap (λ z. z >>= λ v. Ok (h v.0, v.1)) (lf.again end i is.made_of text rest is.is follow n) ∙ ap (λ (x : B). Ok (x, rest)) (sym is.same);
   }
 
 -- ---- nothing
@@ -160,27 +111,19 @@ module _ {A : Type 0} (R : Piece A) (f : Reader A) (I : Class) (e : Bool) (F : C
   placed_sound i j bytes (Ok v) h o = takes_to (Placed R) (j, v.0) o (h, o.is)
   placed_sound i j bytes (Err n) h o = begun_to (Placed R) (i, o.value) o (refl, o.is)
 
-  pub placed_lawful : Lawful R f I e F → Lawful (Placed R) (placed_at f) I e F
-  placed_lawful lf = record {
-    reads = record {
-      sound = λ end i bytes n. placed_sound i (end - length bytes) bytes (f end bytes) (omega arith) (lf.sound end i bytes n);
-      agree = agree;
-      begins = λ i v text is. lf.begins i v.1 text is.1;
-    };
-    again = λ end i v text rest is h n. again end i v text rest is h n;
-  }
-    where
-      again : Again (Placed R) (placed_at f) (λ _ rest. Ends F rest)
-      again end i v text rest is h n =
-          let j : end - length (text ++ rest) ≡ v.0 = omega (arith, is.0) in
-          ap (λ z. z >>= λ x. Ok ((end - length (text ++ rest), x.0), x.1)) (lf.again end i v.1 text rest is.1 h n) ∙ ap (λ (k : ℕ). Ok ((k, v.1), rest)) j
+  placed_agree : Reads R f I e → Agrees (placed_at f)
+  placed_agree lf end last i p c q r m n =
+      let j : last - length (p ++ c ∷ r) ≡ i = omega arith in
+      let k : end - length (p ++ c ∷ q) ≡ i = omega arith in
+      let x = f end (p ++ c ∷ q) in
+      let y = f last (p ++ c ∷ r) in
+      subst (λ (z : ℕ). Agree {A = ℕ × A} c q r (placed_at f end (p ++ c ∷ q)) (y >>= λ v. Ok ((z, v.0), v.1))) (sym j)
+      (subst (λ (z : ℕ). Agree {A = ℕ × A} c q r (x >>= λ v. Ok ((z, v.0), v.1)) (y >>= λ v. Ok ((i, v.0), v.1))) (sym k)
+      (made_agree {B = ℕ × A} (λ a. (i, a)) c q r x y (lf.agree end last i p c q r m n)))
 
-      agree : Agrees (placed_at f)
-      agree end last i p c q r m n =
-          let j : last - length (p ++ c ∷ r) ≡ i = omega arith in
-          let k : end - length (p ++ c ∷ q) ≡ i = omega arith in
-          let x = f end (p ++ c ∷ q) in
-          let y = f last (p ++ c ∷ r) in
-          subst (λ (z : ℕ). Agree {A = ℕ × A} c q r (placed_at f end (p ++ c ∷ q)) (y >>= λ v. Ok ((z, v.0), v.1))) (sym j)
-          (subst (λ (z : ℕ). Agree {A = ℕ × A} c q r (x >>= λ v. Ok ((z, v.0), v.1)) (y >>= λ v. Ok ((i, v.0), v.1))) (sym k)
-          (made_agree {B = ℕ × A} (λ a. (i, a)) c q r x y (lf.agree end last i p c q r m n)))
+  pub placed_reads : Reads R f I e → Reads (Placed R) (placed_at f) I e
+  placed_reads lf = record {
+    sound = λ end i bytes n. placed_sound i (end - length bytes) bytes (f end bytes) (omega arith) (lf.sound end i bytes n);
+    agree = placed_agree lf;
+    begins = λ i v text is. lf.begins i v.1 text is.1;
+  }
