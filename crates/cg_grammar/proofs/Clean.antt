@@ -7,6 +7,7 @@ use Rattle.cg_reading.proofs.Spelled.{then_as}
 use Rattle.cg_grammar.specs.Found.{first}
 use Rattle.cg_grammar.proofs.LeastFault.{none_some}
 use Rattle.cg_grammar.proofs.InOrder.{AllLie, first_cases}
+use Rattle.cg_reading.proofs.Spelled.{made_as}
 
 module _ (d : ℕ) where
   -- the column is before a text, or before the first fault of what has one
@@ -55,9 +56,9 @@ module _ (d : ℕ) where
 
   pub made : {A B : Type 0} (f : B → Option ℕ) (h : A → B) {Q R : Piece A} → Cleans (λ v. f (h v)) Q R → Cleans f (Made h Q) (Made h R)
   made f h r = record {
-    to = λ i v text is. record { made_of = is.made_of; is = r.to i is.made_of text is.is; same = is.same };
+    to = λ i v text is. made_as is.made_of (r.to i is.made_of text is.is) is.same;
     avoids = λ i v text is e. r.avoids i is.made_of text is.is (sym (ap f is.same) ∙ e);
-    from = λ i v text is l. record { made_of = is.made_of; is = r.from i is.made_of text is.is (subst (λ (o : Option ℕ). Before i o) (ap f is.same) l); same = is.same };
+    from = λ i v text is l. made_as is.made_of (r.from i is.made_of text is.is (subst (λ (o : Option ℕ). Before i o) (ap f is.same) l)) is.same;
   }
 
   module _ {A B : Type 0} (f : A → Option ℕ) {Q R : Piece A} (S : Piece B) (r : Cleans f Q R) where

@@ -8,7 +8,7 @@ use Rattle.cg_query.specs.Tree.{tiny, octal, value}
 use Rattle.cg_grammar.specs.Found.{Found, Stated}
 use Rattle.cg_grammar.specs.Values.{Arrows, Last, counted_of, with_tail, clean, negated, sum_of, one_text}
 use Rattle.cg_grammar.specs.Values.{two_texts, asked_of, asked_of_both, checked, asking, defined}
-use Rattle.cg_grammar.specs.Grammar.{number, string, nim, enclosed, switch_piece, string_and, optional, tail, ups_and_nim, primary, special_tail, Some_rows}
+use Rattle.cg_grammar.specs.Grammar.{number, string, nim, enclosed, switch_piece, string_and, tail, ups_and_nim, primary, special_tail}
 use Rattle.cg_grammar.specs.Grammar as g
 use Rattle.cg_grammar.specs.Reading.{Named, Of_tiny, Of_one_text, Of_two_texts, Of_octal, named_words, Behind, Over, Times}
 use Rattle.cg_grammar.specs.Reading.{counted_from, behind_goes_on, Kind, Of_one, Of_two, Of_check, Of_name, question_kinds, kind_of}

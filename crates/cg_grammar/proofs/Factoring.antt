@@ -11,9 +11,9 @@ use Rattle.cg_grammar.specs.Found.{Found}
 use Rattle.cg_grammar.specs.Values.{ups_tree, Last, In_none, In_arrows, goes_on, Counted, whole, times, counted_goes_on}
 use Rattle.cg_grammar.specs.Values.{counted_of, with_tail, clean, negated, sum_of, run_side, braces_of}
 use Rattle.cg_grammar.specs.Grammar as s
-use Rattle.cg_grammar.specs.Grammar.{Bars_side}
 use Rattle.cg_grammar.specs.Reading.{Behind, Over, Times, counted_from, behind_goes_on}
 use Rattle.cg_grammar.proofs.Factored as g
+use Rattle.cg_reading.proofs.Spelled.{then_is, then_as, made_is, made_as}
 
 -- ---- blanks
 
@@ -36,7 +36,7 @@ gap_blanks i u x g =
 some_gap : (i b : ℕ) (bs : List ℕ) → list_all (has blank) (b ∷ bs) ≡ true → gap i (tt {0}) (b ∷ bs)
 some_gap i b bs h =
     let p = and_parts (has blank b) (list_all (has blank) bs) h in
-    record { made_of = (b, bs); is = record { before = b ∷ []; behind = bs; first = record { within = p.0; spelled = refl }; second = record { within = p.1; spelled = refl }; spelled = refl }; same = refl }
+    made_is (b, bs) (then_is (b ∷ []) bs (record { within = p.0; spelled = refl }) (record { within = p.1; spelled = refl }))
 
 -- ---- terms
 
@@ -56,13 +56,13 @@ module _ (S T : Piece (Found × Last)) (e : Same S T) where
 
   counted_to : (n : ℕ) (b : Behind) (i : ℕ) (x y text : List ℕ) → digits i n x → g.behind S (i + length x) b y → text ≡ x ++ y → s.counted T i (counted_from (n, b)) text
   counted_to n b i x y text d (inl m) k =
-      let all : s.counted T i (counted_from (n, Over m.made_of.1)) text = inl (record { made_of = (n, m.made_of.1); is = record { before = x; behind = y; first = d; second = inl (record { made_of = m.made_of; is = m.is; same = refl }); spelled = k }; same = refl }) in
+      let all : s.counted T i (counted_from (n, Over m.made_of.1)) text = inl (made_is (n, m.made_of.1) (then_as x y d (inl (made_is m.made_of m.is)) k)) in
       subst (λ (z : Behind). s.counted T i (counted_from (n, z)) text) (sym m.same) all
   counted_to n b i x y text d (inr (inl m)) k =
-      let all : s.counted T i (counted_from (n, Times m.made_of.1.0 m.made_of.1.1)) text = inr (record { made_of = (n, m.made_of.1); is = record { made_of = (n, m.made_of); is = record { before = x; behind = y; first = d; second = times_same.to (i + length x) m.made_of y m.is; spelled = k }; same = refl }; same = refl }) in
+      let all : s.counted T i (counted_from (n, Times m.made_of.1.0 m.made_of.1.1)) text = inr (made_is (n, m.made_of.1) (made_is (n, m.made_of) (then_as x y d (times_same.to (i + length x) m.made_of y m.is) k))) in
       subst (λ (z : Behind). s.counted T i (counted_from (n, z)) text) (sym m.same) all
   counted_to n b i x y text d (inr (inr q)) k =
-      let all : s.counted T i (counted_from (n, Over 1)) text = inl (record { made_of = (n, 1); is = record { before = x; behind = y; first = d; second = inr (refl, q.1); spelled = k }; same = refl }) in
+      let all : s.counted T i (counted_from (n, Over 1)) text = inl (made_is (n, 1) (then_as x y d (inr (refl, q.1)) k)) in
       subst (λ (z : Behind). s.counted T i (counted_from (n, z)) text) (sym q.0) all
 
   ended_to : (n : ℕ) (b : Behind) (y : List ℕ) → Ends (behind_goes_on b) y → Ends (counted_goes_on (counted_from (n, b))) y
@@ -79,8 +79,8 @@ module _ (S T : Piece (Found × Last)) (e : Same S T) where
     same : c ≡ counted_from value
 
   number_back : (n d i : ℕ) (c : Counted) (x y text : List ℕ) → digits i n x → Or (Made (λ v. v.1) (Then (One (only 47)) digits)) (Nothing 1) (i + length x) d y → text ≡ x ++ y → c ≡ whole n d → Counted_back i c text
-  number_back n d i c x y text a (inl o) k same = record { value = (n, Over d); is = record { before = x; behind = y; first = a; second = inl (record { made_of = o.made_of; is = o.is; same = ap (λ (z : ℕ). Over z) o.same }); spelled = k }; same = same }
-  number_back n d i c x y text a (inr q) k same = record { value = (n, Over d); is = record { before = x; behind = y; first = a; second = inr (inr (ap (λ (z : ℕ). Over z) q.0, q.1)); spelled = k }; same = same }
+  number_back n d i c x y text a (inl o) k same = record { value = (n, Over d); is = then_as x y a (inl (made_as o.made_of o.is (ap (λ (z : ℕ). Over z) o.same))) k; same = same }
+  number_back n d i c x y text a (inr q) k same = record { value = (n, Over d); is = then_as x y a (inr (inr (ap (λ (z : ℕ). Over z) q.0, q.1))) k; same = same }
 
   counted_back : (i : ℕ) (c : Counted) (text : List ℕ) → s.counted T i c text → Counted_back i c text
   counted_back i c text (inl m) = number_back m.made_of.0 m.made_of.1 i c m.is.before m.is.behind text m.is.first m.is.second m.is.spelled m.same
@@ -89,24 +89,16 @@ module _ (S T : Piece (Found × Last)) (e : Same S T) where
       let p = w.1.1 in
       record {
         value = (w.0, Times p.0 p.1);
-        is = record { before = m.is.is.before; behind = m.is.is.behind; first = m.is.is.first; second = inr (inl (record { made_of = w.1; is = times_same.from (i + length m.is.is.before) w.1 m.is.is.behind m.is.is.second; same = refl })); spelled = m.is.is.spelled };
+        is = then_as m.is.is.before m.is.is.behind m.is.is.first (inr (inl (made_is w.1 (times_same.from (i + length m.is.is.before) w.1 m.is.is.behind m.is.is.second)))) m.is.is.spelled;
         same = m.same ∙ ap (λ (z : ℕ × (Found × Last)). times z.0 z.1.0 z.1.1) m.is.same;
       }
 
   counted_same : (negative : Bool) → Same (g.counted_term S negative) (s.counted_tail T negative)
   counted_same negative = record {
-    to = λ i a text m. record {
-      made_of = (counted_from m.made_of.0, m.made_of.1);
-      is = record { before = m.is.before; behind = m.is.behind; first = counted_to m.made_of.0.0 m.made_of.0.1 i m.is.first.before m.is.first.behind m.is.before m.is.first.first m.is.first.second m.is.first.spelled; second = m.is.second; ended = ended_to m.made_of.0.0 m.made_of.0.1 m.is.behind m.is.ended; spelled = m.is.spelled };
-      same = m.same;
-    };
+    to = λ i a text m. made_as (counted_from m.made_of.0, m.made_of.1) (record { before = m.is.before; behind = m.is.behind; first = counted_to m.made_of.0.0 m.made_of.0.1 i m.is.first.before m.is.first.behind m.is.before m.is.first.first m.is.first.second m.is.first.spelled; second = m.is.second; ended = ended_to m.made_of.0.0 m.made_of.0.1 m.is.behind m.is.ended; spelled = m.is.spelled }) m.same;
     from = λ i a text m.
         let b = counted_back i m.made_of.0 m.is.before m.is.first in
-        record {
-          made_of = (b.value, m.made_of.1);
-          is = record { before = m.is.before; behind = m.is.behind; first = b.is; second = m.is.second; ended = ended_from b.value.0 b.value.1 m.is.behind (subst (λ (c : Counted). Ends (counted_goes_on c) m.is.behind) b.same m.is.ended); spelled = m.is.spelled };
-          same = m.same ∙ ap (λ (c : Counted). with_tail (counted_of negative c) m.made_of.1) b.same;
-        };
+        made_as (b.value, m.made_of.1) (record { before = m.is.before; behind = m.is.behind; first = b.is; second = m.is.second; ended = ended_from b.value.0 b.value.1 m.is.behind (subst (λ (c : Counted). Ends (counted_goes_on c) m.is.behind) b.same m.is.ended); spelled = m.is.spelled }) (m.same ∙ ap (λ (c : Counted). with_tail (counted_of negative c) m.made_of.1) b.same);
   }
 
   special_tail_same : Same (s.special_tail S) (s.special_tail T)
@@ -131,34 +123,34 @@ module _ (S T : Piece (Found × Last)) (e : Same S T) where
   negated_body = Or (Made (λ v. negated v.1) (Then gap (g.unsigned_term S))) (Made negated (g.uncounted_term S))
 
   spaced_to : (i : ℕ) (a v : Found) (x y text : List ℕ) (u : Unit {0}) → gap i u x → g.unsigned_term S (i + length x) v y → text ≡ x ++ y → a ≡ negated v → Made negated (s.body T) i a text
-  spaced_to i a v x y text u h (inl c) k same = record { made_of = v; is = inl (record { made_of = (u, v); is = record { before = x; behind = y; first = h; second = (counted_same false).to (i + length x) v y c; spelled = k }; same = refl }); same = same }
+  spaced_to i a v x y text u h (inl c) k same = made_as v (inl (made_is (u, v) (then_as x y h ((counted_same false).to (i + length x) v y c) k))) same
   spaced_to i a v x y text u h (inr c) k same =
       let b = gap_blanks i u x h in
-      record { made_of = v; is = inr (record { made_of = (b.0, v); is = record { before = x; behind = y; first = b.1; second = uncounted_to (i + length x) v y c; spelled = k }; same = refl }); same = same }
+      made_as v (inr (made_is (b.0, v) (then_as x y b.1 (uncounted_to (i + length x) v y c) k))) same
 
   body_to : (i : ℕ) (a : Found) (text : List ℕ) → negated_body i a text → Made negated (s.body T) i a text
   body_to i a text (inl m) = spaced_to i a m.made_of.1 m.is.before m.is.behind text m.made_of.0 m.is.first m.is.second m.is.spelled m.same
   body_to i a text (inr m) =
       let here : i ≡ i + 0 = omega arith in
-      record { made_of = m.made_of; is = inr (record { made_of = ([], m.made_of); is = record { before = []; behind = text; first = record { within = refl; spelled = refl }; second = subst (λ (n : ℕ). uncounted n m.made_of text) here (uncounted_to i m.made_of text m.is); spelled = refl }; same = refl }); same = m.same }
+      made_as m.made_of (inr (made_is ([], m.made_of) (then_is [] text (record { within = refl; spelled = refl }) (subst (λ (n : ℕ). uncounted n m.made_of text) here (uncounted_to i m.made_of text m.is))))) m.same
 
   blanks_from : (i : ℕ) (a v : Found) (bs x y text : List ℕ) → list_all (has blank) bs ≡ true → x ≡ bs → uncounted (i + length x) v y → text ≡ x ++ y → a ≡ negated v → negated_body i a text
   blanks_from i a v [] x y text h e c k same =
       let here : i + length x ≡ i = omega (arith, ap length e) in
       let all : text ≡ y = k ∙ ap (λ (z : List ℕ). z ++ y) e in
-      inr (record { made_of = v; is = subst (λ (z : List ℕ). g.uncounted_term S i v z) (sym all) (uncounted_from i v y (subst (λ (n : ℕ). uncounted n v y) here c)); same = same })
+      inr (made_as v (subst (λ (z : List ℕ). g.uncounted_term S i v z) (sym all) (uncounted_from i v y (subst (λ (n : ℕ). uncounted n v y) here c))) same)
   blanks_from i a v (b ∷ bs) x y text h e c k same =
-      inl (record { made_of = (tt {0}, v); is = record { before = x; behind = y; first = subst (λ (z : List ℕ). gap i (tt {0}) z) (sym e) (some_gap i b bs h); second = inr (uncounted_from (i + length x) v y c); spelled = k }; same = same })
+      inl (made_as (tt {0}, v) (then_as x y (subst (λ (z : List ℕ). gap i (tt {0}) z) (sym e) (some_gap i b bs h)) (inr (uncounted_from (i + length x) v y c)) k) same)
 
   body_from_of : (i : ℕ) (a v : Found) (text : List ℕ) → a ≡ negated v → s.body T i v text → negated_body i a text
-  body_from_of i a v text same (inl m) = inl (record { made_of = m.made_of; is = record { before = m.is.before; behind = m.is.behind; first = m.is.first; second = inl ((counted_same false).from (i + length m.is.before) m.made_of.1 m.is.behind m.is.second); spelled = m.is.spelled }; same = same ∙ ap negated m.same })
+  body_from_of i a v text same (inl m) = inl (made_as m.made_of (then_as m.is.before m.is.behind m.is.first (inl ((counted_same false).from (i + length m.is.before) m.made_of.1 m.is.behind m.is.second)) m.is.spelled) (same ∙ ap negated m.same))
   body_from_of i a v text same (inr m) = blanks_from i a m.made_of.1 m.made_of.0 m.is.before m.is.behind text m.is.first.within m.is.first.spelled m.is.second m.is.spelled (same ∙ ap negated m.same)
 
   minus_to : (i : ℕ) (a v : Found) (b : ℕ) (x y text : List ℕ) → One (only 45) i b x → g.minus_body S (i + length x) v y → text ≡ x ++ y → a ≡ v → s.term T i a text
-  minus_to i a v b x y text h (inl c) k same = inl (inl (record { made_of = (b, v); is = record { before = x; behind = y; first = h; second = (counted_same true).to (i + length x) v y c; spelled = k }; same = same }))
+  minus_to i a v b x y text h (inl c) k same = inl (inl (made_as (b, v) (then_as x y h ((counted_same true).to (i + length x) v y c) k) same))
   minus_to i a v b x y text h (inr r) k same =
       let q = body_to (i + length x) v y r in
-      inr (inr (inr (inr (record { made_of = (b, q.made_of); is = record { before = x; behind = y; first = h; second = q.is; spelled = k }; same = same ∙ q.same }))))
+      inr (inr (inr (inr (made_as (b, q.made_of) (then_as x y h q.is k) (same ∙ q.same)))))
 
   term_to : (i : ℕ) (a : Found) (text : List ℕ) → g.term S i a text → s.term T i a text
   term_to i a text (inl m) = minus_to i a m.made_of.1 m.made_of.0 m.is.before m.is.behind text m.is.first m.is.second m.is.spelled m.same
@@ -168,13 +160,13 @@ module _ (S T : Piece (Found × Last)) (e : Same S T) where
   term_to i a text (inr (inr (inr (inr t)))) = inr (inl (special_tail_same.to i a text t))
 
   term_from : (i : ℕ) (a : Found) (text : List ℕ) → s.term T i a text → g.term S i a text
-  term_from i a text (inl (inl m)) = inl (record { made_of = m.made_of; is = record { before = m.is.before; behind = m.is.behind; first = m.is.first; second = inl ((counted_same true).from (i + length m.is.before) m.made_of.1 m.is.behind m.is.second); spelled = m.is.spelled }; same = m.same })
+  term_from i a text (inl (inl m)) = inl (made_as m.made_of (then_as m.is.before m.is.behind m.is.first (inl ((counted_same true).from (i + length m.is.before) m.made_of.1 m.is.behind m.is.second)) m.is.spelled) m.same)
   term_from i a text (inl (inr c)) = inr (inl ((counted_same false).from i a text c))
   term_from i a text (inr (inl t)) = inr (inr (inr (inr (special_tail_same.from i a text t))))
   term_from i a text (inr (inr (inl u))) = inr (inr (inl u))
   term_from i a text (inr (inr (inr (inl n)))) = inr (inr (inr (inl n)))
   term_from i a text (inr (inr (inr (inr m)))) =
-      inl (record { made_of = (m.made_of.0, negated m.made_of.1); is = record { before = m.is.before; behind = m.is.behind; first = m.is.first; second = inr (body_from_of (i + length m.is.before) (negated m.made_of.1) m.made_of.1 m.is.behind refl m.is.second); spelled = m.is.spelled }; same = m.same })
+      inl (made_as (m.made_of.0, negated m.made_of.1) (then_as m.is.before m.is.behind m.is.first (inr (body_from_of (i + length m.is.before) (negated m.made_of.1) m.made_of.1 m.is.behind refl m.is.second)) m.is.spelled) m.same)
 
   term_same : Same (g.term S) (s.term T)
   term_same = record { to = term_to; from = term_from }

@@ -10,17 +10,14 @@ use Rattle.cg_reading.proofs.Laws.{Some_text}
 use Rattle.cg_reading.proofs.Tellings.{Goes_on}
 use Rattle.cg_grammar.specs.Values.{letter_or_digit}
 use Rattle.cg_grammar.specs.Grammar.{letter, lettered, question_words, is_free}
+use Rattle.cg_reading.proofs.Spelled.{then_is, made_is}
 
 pub no_few : (c : Class) (most j : ℕ) → Some_text (Few c most) j
 no_few c most j = record { value = []; text = []; is = record { within = refl; few = omega arith; spelled = refl } }
 
 -- a letter, and letters and digits behind it
 pub word_is : (i b : ℕ) (bs : List ℕ) → has letter b ≡ true → list_all (has letter_or_digit) bs ≡ true → length bs ≤ 15 → lettered i (b ∷ bs) (b ∷ bs)
-word_is i b bs h a few = record {
-  made_of = (b, bs);
-  is = record { before = b ∷ []; behind = bs; first = record { within = h; spelled = refl }; second = record { within = a; few = few; spelled = refl }; spelled = refl };
-  same = refl;
-}
+word_is i b bs h a few = made_is (b, bs) (then_is (b ∷ []) bs (record { within = h; spelled = refl }) (record { within = a; few = few; spelled = refl }))
 
 -- what all of a list have
 abbrev pub Each : (List ℕ → Type 0) → List (List ℕ) → Type 0

@@ -7,7 +7,8 @@ use Rattle.cg_reading.specs.Readers.{Reader, made_at}
 use Rattle.cg_reading.specs.Tokens.{only, blank, blanks, gap, with_blanks}
 use Rattle.cg_reading.proofs.Sets.{apart}
 use Rattle.cg_reading.proofs.Laws.{Lawful, Reads, Some_text}
-use Rattle.cg_reading.proofs.ByteRuns.{one_lawful, bytes_lawful, no_text, word_text}
+use Rattle.cg_reading.proofs.ByteRuns.{one_lawful, bytes_lawful, no_text}
+use Rattle.cg_reading.proofs.OneWord.{word_text}
 use Rattle.cg_reading.proofs.Longest.{Token, plain_token, placed_token, made_full, or_full_ok, then_full, wide_token}
 use Rattle.cg_reading.proofs.Rules.{then_ok, or_ok, made_ok, wide_ok, then_text, made_text, left_text, right_text}
 use Rattle.cg_reading.proofs.MostBytes.{most_token, more_apart}
@@ -27,8 +28,9 @@ use Rattle.cg_grammar.proofs.Factored as g
 use Rattle.cg_grammar.proofs.Plain.{whole_special_is}
 use Rattle.cg_grammar.proofs.FreeWords.{other_name, no_few}
 use Rattle.cg_grammar.proofs.TokenProductions.{number_text, number_follow, string_ok, string_text, plain_special_ok}
-use Rattle.cg_grammar.proofs.TermProductions.{spaced_follow, sum_follow, token_bytes, letters_bound, next_term_ok}
+use Rattle.cg_grammar.proofs.TermProductions.{spaced_follow, sum_follow, next_term_ok}
 use Rattle.cg_grammar.proofs.TermProductions.{sum_ok, sum_text, next_item_ok, row_reads_ok, braces_ok, paren_ok}
+use Rattle.cg_reading.proofs.Spelled.{made_is}
 
 -- ---- any number of brackets
 
@@ -50,7 +52,7 @@ name_token = such_token is_free other_name lettered_token
 
 use_token : Token s.use_piece r.whole_use_at letter false [] (λ v. goes_on v.1)
 unfolding r.whole_use_at
-use_token = made_full (λ v. (clean (used v.1 v.0), In_name v.1)) (λ v. goes_on v.1) (placed_token token_bytes letters_bound name_token)
+use_token = made_full (λ v. (clean (used v.1 v.0), In_name v.1)) (λ v. goes_on v.1) (placed_token name_token)
 
 -- ---- specials with any number of brackets
 
@@ -183,8 +185,8 @@ first_word_token formats.Two =
     (made_full (λ w. (w, r.kind_of w)) (λ w. more_letters w.0) lettered_token) refl) refl refl
 
 first_word_text : (format : Format) (j : ℕ) → Some_text (g.first_word format) j
-first_word_text formats.One j = record { value = ([], r.Of_one value); text = codes "value"; is = record { made_of = r.Of_one value; is = inl (refl, refl); same = refl } }
-first_word_text formats.Two j = record { value = ([], r.Of_one value); text = codes "value"; is = inl (record { made_of = tt {0}; is = (refl, refl); same = refl }) }
+first_word_text formats.One j = record { value = ([], r.Of_one value); text = codes "value"; is = made_is (r.Of_one value) (inl (refl, refl)) }
+first_word_text formats.Two j = record { value = ([], r.Of_one value); text = codes "value"; is = inl (made_is (tt {0}) (refl, refl)) }
 
 module _ (format : Format) where
   pub statement_ok : Lawful (g.statement format) (r.statement_at format) statement_begin false sum_follow

@@ -16,13 +16,15 @@ use Rattle.cg_grammar.specs.Grammar.{bar, bars, Bars_side, Rows, Some_rows}
 use Rattle.cg_grammar.specs.Reading.{bars_at, row_at, some_rows_at}
 use Rattle.cg_grammar.specs.Reading as reading
 use Rattle.cg_grammar.proofs.Factored.{side}
+use Rattle.cg_reading.proofs.Spelled.{made_is}
+use Rattle.cg_reading.proofs.Laws.{takes_as, begun_as}
 
 bars_ok : Lawful bars bars_at bar false bar
 unfolding bars_at
 bars_ok = placed_ok (made_ok (λ bs. length bs) (run_lawful bar 8 (omega arith) 124 refl))
 
 bars_text : (j : ℕ) → Some_text bars j
-bars_text j = record { value = (j, 1); text = 124 ∷ []; is = (refl, record { made_of = 124 ∷ []; is = record { within = refl; some = omega arith; few = omega arith; spelled = refl }; same = refl }) }
+bars_text j = record { value = (j, 1); text = 124 ∷ []; is = (refl, made_is (124 ∷ []) (record { within = refl; some = omega arith; few = omega arith; spelled = refl })) }
 
 full_placed : (j : ℕ) (x : Read ℕ) → Full (λ _. bar) x → Full {A = ℕ × ℕ} (λ _. bar) (x >>= λ v. Ok ((j, v.0), v.1))
 full_placed j (Ok v) k = k
@@ -59,55 +61,23 @@ module _ (E : Piece Found) (e : Reader Found) (I F : Class) (ls : Lawful ((side 
 
   module _ (end : ℕ) (k : List ℕ → Read (List Row)) (ks : (j : ℕ) (rest : List ℕ) → j + length rest ≡ end → Outcome (Rows (side E)) j rest (k rest)) (kn : (rest : List ℕ) → Ends bar rest → k rest ≡ Ok ([], rest)) where
     rows_end : (i : ℕ) (bytes : List ℕ) (x : ℕ × ℕ) (rest : List ℕ) (t : Takes bars i bytes x rest) (v : List Found) (c : ℕ) (mid rest2 : List ℕ) → (side E) (i + length t.text) v (c ∷ mid) → rest ≡ (c ∷ mid) ++ rest2 → (z : Read (List Row)) → Outcome (Rows (side E)) (i + length t.text + length (c ∷ mid)) rest2 z → Outcome (Some_rows (side E)) i bytes (with_first (x, v) z)
-    rows_end i bytes x rest t v c mid rest2 is split (Ok w) o = record {
-      text = t.text ++ ((c ∷ mid) ++ o.text);
-      is = record { run = t.text; middle = c ∷ mid; more = o.text; is_run = t.is; is_side = is; is_more = o.is; no_bar = apart_has I bar c away (ls.begins (i + length t.text) v (c ∷ mid) is); spelled = refl };
-      split = t.split ∙ ap (λ (u : List ℕ). t.text ++ u) (split ∙ ap (λ (u : List ℕ). (c ∷ mid) ++ u) o.split ∙ sym (append_assoc (c ∷ mid) o.text w.1)) ∙ sym (append_assoc t.text ((c ∷ mid) ++ o.text) w.1);
-    }
-    rows_end i bytes x rest t v c mid rest2 is split (Err m) o = record {
-      taken = t.text ++ ((c ∷ mid) ++ o.taken);
-      rest = o.rest;
-      more = o.more;
-      value = ((x, v), o.value);
-      is = record { run = t.text; middle = c ∷ mid; more = o.taken ++ o.more; is_run = t.is; is_side = is; is_more = o.is; no_bar = apart_has I bar c away (ls.begins (i + length t.text) v (c ∷ mid) is); spelled = append_assoc t.text ((c ∷ mid) ++ o.taken) o.more ∙ ap (λ (u : List ℕ). t.text ++ u) (append_assoc (c ∷ mid) o.taken o.more) };
-      split = t.split ∙ ap (λ (u : List ℕ). t.text ++ u) (split ∙ ap (λ (u : List ℕ). (c ∷ mid) ++ u) o.split ∙ sym (append_assoc (c ∷ mid) o.taken o.rest)) ∙ sym (append_assoc t.text ((c ∷ mid) ++ o.taken) o.rest);
-      stuck = o.stuck;
-    }
+    rows_end i bytes x rest t v c mid rest2 is split (Ok w) o = takes_as (t.text ++ ((c ∷ mid) ++ o.text)) (record { run = t.text; middle = c ∷ mid; more = o.text; is_run = t.is; is_side = is; is_more = o.is; no_bar = apart_has I bar c away (ls.begins (i + length t.text) v (c ∷ mid) is); spelled = refl }) (t.split ∙ ap (λ (u : List ℕ). t.text ++ u) (split ∙ ap (λ (u : List ℕ). (c ∷ mid) ++ u) o.split ∙ sym (append_assoc (c ∷ mid) o.text w.1)) ∙ sym (append_assoc t.text ((c ∷ mid) ++ o.text) w.1))
+    rows_end i bytes x rest t v c mid rest2 is split (Err m) o = begun_as (t.text ++ ((c ∷ mid) ++ o.taken)) o.rest o.more ((x, v), o.value) (record { run = t.text; middle = c ∷ mid; more = o.taken ++ o.more; is_run = t.is; is_side = is; is_more = o.is; no_bar = apart_has I bar c away (ls.begins (i + length t.text) v (c ∷ mid) is); spelled = append_assoc t.text ((c ∷ mid) ++ o.taken) o.more ∙ ap (λ (u : List ℕ). t.text ++ u) (append_assoc (c ∷ mid) o.taken o.more) }) (t.split ∙ ap (λ (u : List ℕ). t.text ++ u) (split ∙ ap (λ (u : List ℕ). (c ∷ mid) ++ u) o.split ∙ sym (append_assoc (c ∷ mid) o.taken o.rest)) ∙ sym (append_assoc t.text ((c ∷ mid) ++ o.taken) o.rest)) o.stuck
 
     rows_then : (i : ℕ) (bytes : List ℕ) (x : ℕ × ℕ) (rest : List ℕ) (t : Takes bars i bytes x rest) → i + length bytes ≡ end → Ends bar rest → (v : List Found) (middle rest2 : List ℕ) → (side E) (i + length t.text) v middle → rest ≡ middle ++ rest2 → Outcome (Some_rows (side E)) i bytes (with_first (x, v) (k rest2))
     rows_then i bytes x rest t n full v [] rest2 is split =
         let none : k rest2 ≡ Ok ([], rest2) = kn rest2 (subst (λ (u : List ℕ). Ends bar u) split full) in
-        rw none (record {
-          text = t.text;
-          is = record { run = t.text; middle = []; more = []; is_run = t.is; is_side = is; is_more = refl; no_bar = tt; spelled = sym (append-nil t.text) };
-          split = t.split ∙ ap (λ (u : List ℕ). t.text ++ u) split;
-        })
+        rw none (takes_as t.text (record { run = t.text; middle = []; more = []; is_run = t.is; is_side = is; is_more = refl; no_bar = tt; spelled = sym (append-nil t.text) }) (t.split ∙ ap (λ (u : List ℕ). t.text ++ u) split))
     rows_then i bytes x rest t n full v (c ∷ mid) rest2 is split =
-        rows_end i bytes x rest t v c mid rest2 is split (k rest2) (ks (i + length t.text + length (c ∷ mid)) rest2 (omega (arith, n, behind bars i bytes x rest t, ap length split, length-append (c ∷ mid) rest2)))
+        rows_end i bytes x rest t v c mid rest2 is split (k rest2) (ks (i + length t.text + length (c ∷ mid)) rest2 (omega (arith, n, behind t, ap length split, length-append (c ∷ mid) rest2)))
 
     side_then : (i : ℕ) (bytes : List ℕ) (x : ℕ × ℕ) (rest : List ℕ) (t : Takes bars i bytes x rest) → i + length bytes ≡ end → Ends bar rest → (y : Read (List Found)) → Outcome ((side E)) (i + length t.text) rest y → Outcome (Some_rows (side E)) i bytes (with_first x y >>= λ r. with_first r.0 (k r.1))
     side_then i bytes x rest t n full (Ok w) o = rows_then i bytes x rest t n full w.0 o.text w.1 o.is o.split
-    side_then i bytes x rest t n full (Err m) o = record {
-      taken = t.text ++ o.taken;
-      rest = o.rest;
-      more = o.more;
-      value = ((x, o.value), []);
-      is = record { run = t.text; middle = o.taken ++ o.more; more = []; is_run = t.is; is_side = o.is; is_more = refl; no_bar = ends_nothing (o.taken ++ o.more) (ls.begins (i + length t.text) o.value (o.taken ++ o.more) o.is); spelled = append_assoc t.text o.taken o.more ∙ ap (λ (u : List ℕ). t.text ++ u) (sym (append-nil (o.taken ++ o.more))) };
-      split = t.split ∙ ap (λ (u : List ℕ). t.text ++ u) o.split ∙ sym (append_assoc t.text o.taken o.rest);
-      stuck = o.stuck;
-    }
+    side_then i bytes x rest t n full (Err m) o = begun_as (t.text ++ o.taken) o.rest o.more ((x, o.value), []) (record { run = t.text; middle = o.taken ++ o.more; more = []; is_run = t.is; is_side = o.is; is_more = refl; no_bar = ends_nothing (o.taken ++ o.more) (ls.begins (i + length t.text) o.value (o.taken ++ o.more) o.is); spelled = append_assoc t.text o.taken o.more ∙ ap (λ (u : List ℕ). t.text ++ u) (sym (append-nil (o.taken ++ o.more))) }) (t.split ∙ ap (λ (u : List ℕ). t.text ++ u) o.split ∙ sym (append_assoc t.text o.taken o.rest)) o.stuck
 
     bars_then : (i : ℕ) (bytes : List ℕ) → i + length bytes ≡ end → (x : Read (ℕ × ℕ)) → Full (λ _. bar) x → Outcome bars i bytes x → Outcome (Some_rows (side E)) i bytes ((x >>= λ v. with_first v.0 (reading.side_at e end v.1)) >>= λ r. with_first r.0 (k r.1))
-    bars_then i bytes n (Ok v) full o = side_then i bytes v.0 v.1 o n full (reading.side_at e end v.1) (ls.sound end (i + length o.text) v.1 (behind bars i bytes v.0 v.1 o ∙ n))
-    bars_then i bytes n (Err m) full o = record {
-      taken = o.taken;
-      rest = o.rest;
-      more = o.more;
-      value = ((o.value, []), []);
-      is = record { run = o.taken ++ o.more; middle = []; more = []; is_run = o.is; is_side = empty (i + length (o.taken ++ o.more)); is_more = refl; no_bar = tt; spelled = sym (append-nil (o.taken ++ o.more)) };
-      split = o.split;
-      stuck = o.stuck;
-    }
+    bars_then i bytes n (Ok v) full o = side_then i bytes v.0 v.1 o n full (reading.side_at e end v.1) (ls.sound end (i + length o.text) v.1 (behind o ∙ n))
+    bars_then i bytes n (Err m) full o = begun_as o.taken o.rest o.more ((o.value, []), []) (record { run = o.taken ++ o.more; middle = []; more = []; is_run = o.is; is_side = empty (i + length (o.taken ++ o.more)); is_more = refl; no_bar = tt; spelled = sym (append-nil (o.taken ++ o.more)) }) o.split o.stuck
 
     step_sound : (i : ℕ) (bytes : List ℕ) → i + length bytes ≡ end → Outcome (Some_rows (side E)) i bytes (row_at e end bytes >>= λ r. with_first r.0 (k r.1))
     step_sound i bytes n = bars_then i bytes n (bars_at end bytes) (bars_full end bytes) (bars_ok.sound end i bytes n)
@@ -121,8 +91,8 @@ module _ (E : Piece Found) (e : Reader Found) (I F : Class) (ls : Lawful ((side 
     joined (Err m) = refl
 
     pushed : (i : ℕ) (bytes : List ℕ) (x : Read (Row × List Row)) → Outcome (Some_rows (side E)) i bytes x → Outcome (Rows (side E)) i bytes (as_rows x)
-    pushed i bytes (Ok v) o = record { text = o.text; is = o.is; split = o.split }
-    pushed i bytes (Err m) o = record { taken = o.taken; rest = o.rest; more = o.more; value = o.value.0 ∷ o.value.1; is = o.is; split = o.split; stuck = o.stuck }
+    pushed i bytes (Ok v) o = takes_as o.text o.is o.split
+    pushed i bytes (Err m) o = begun_as o.taken o.rest o.more (o.value.0 ∷ o.value.1) o.is o.split o.stuck
 
     rows_step : (i : ℕ) (bytes : List ℕ) → i + length bytes ≡ end → Outcome (Rows (side E)) i bytes (row_at e end bytes >>= λ v. k v.1 >>= λ xs. Ok (v.0 ∷ xs.0, xs.1))
     rows_step i bytes n = subst (λ (z : Read (List Row)). Outcome (Rows (side E)) i bytes z) (sym (joined (row_at e end bytes))) (pushed i bytes (row_at e end bytes >>= λ r. with_first r.0 (k r.1)) (step_sound i bytes n))
@@ -133,7 +103,7 @@ module _ (E : Piece Found) (e : Reader Found) (I F : Class) (ls : Lawful ((side 
   none_left (suc turns) end (b ∷ rest) h = rw h refl
 
   no_rows : (i : ℕ) (bytes : List ℕ) → Takes (Rows (side E)) i bytes [] bytes
-  no_rows i bytes = record { text = []; is = refl; split = refl }
+  no_rows i bytes = takes_as [] refl refl
 
   rows_sound : (turns end i : ℕ) (bytes : List ℕ) → i + length bytes ≡ end → Outcome (Rows (side E)) i bytes (many_from bar (row_at e) turns end bytes)
   rows_sound zero end i bytes n = no_rows i bytes

@@ -24,6 +24,7 @@ use Rattle.cg_grammar.proofs.Factored as g
 use Rattle.cg_grammar.proofs.FreeWords.{letters_spelled, word_is}
 use Rattle.cg_grammar.proofs.Productions.{line_ok}
 use Rattle.cg_grammar.proofs.SameLines.{expr_same, query_same, one_value, both_value, check_value}
+use Rattle.cg_reading.proofs.Spelled.{then_is, then_as, made_is, made_as}
 
 -- ---- blanks belong to what stands before them
 
@@ -101,11 +102,11 @@ abbrev First : Format → ℕ → Kind → List ℕ → Type 0
 First format i k x = (word : List ℕ) × g.first_word format i (word, k) x
 
 in_letters : (i b : ℕ) (bs : List ℕ) (k : Kind) (x : List ℕ) → k ≡ kind_of (b ∷ bs) → x ≡ b ∷ bs → has s.letter b ≡ true → list_all (has letter_or_digit) bs ≡ true → length bs ≤ 15 → First formats.Two i k x
-in_letters i b bs k x e f h a few = (b ∷ bs, inr (record { made_of = b ∷ bs; is = subst (λ (z : List ℕ). s.lettered i (b ∷ bs) z) (sym f) (word_is i b bs h a few); same = ap (λ (z : Kind). (b ∷ bs, z)) e }))
+in_letters i b bs k x e f h a few = (b ∷ bs, inr (made_as (b ∷ bs) (subst (λ (z : List ℕ). s.lettered i (b ∷ bs) z) (sym f) (word_is i b bs h a few)) (ap (λ (z : Kind). (b ∷ bs, z)) e)))
 
 known_first : (format : Format) (i : ℕ) (k : Kind) (x : List ℕ) → Among question_kinds i k x → First format i k x
-known_first formats.One i k x m = ([], record { made_of = k; is = m; same = refl })
-known_first formats.Two i k x (inl w) = ([], inl (record { made_of = tt {0}; is = (refl, w.1); same = ap (λ (z : Kind). ([], z)) w.0 }))
+known_first formats.One i k x m = ([], made_is k m)
+known_first formats.Two i k x (inl w) = ([], inl (made_as (tt {0}) (refl, w.1) (ap (λ (z : Kind). ([], z)) w.0)))
 known_first formats.Two i k x (inr (inl w)) = in_letters i 99 (codes "ompare") k x w.0 w.1 refl refl (omega arith)
 known_first formats.Two i k x (inr (inr (inl w))) = in_letters i 111 (codes "utcome") k x w.0 w.1 refl refl (omega arith)
 known_first formats.Two i k x (inr (inr (inr (inl w)))) = in_letters i 115 (codes "tops") k x w.0 w.1 refl refl (omega arith)
@@ -146,13 +147,13 @@ module _ (format : Format) (i : ℕ) (a : Stated) (text : List ℕ) where
   to_question : (q : Asked) → questions format i q text → a ≡ asking q → g.statement format i a text
   to_question q (inl n) e =
       let w = known_first format i (Of_one n.made_of.0) n.is.before (asking_word i n.made_of.0 n.is.before n.is.first) in
-      record { told = (w.0, Of_one n.made_of.0); before = n.is.before; behind = n.is.behind; first = w.1; second = record { made_of = n.made_of.1; is = n.is.second; same = e ∙ ap asking n.same }; spelled = n.is.spelled }
+      record { told = (w.0, Of_one n.made_of.0); before = n.is.before; behind = n.is.behind; first = w.1; second = made_as n.made_of.1 n.is.second (e ∙ ap asking n.same); spelled = n.is.spelled }
   to_question q (inr (inl n)) e =
       let w = known_first format i (Of_two n.made_of.0) n.is.before (both_word i n.made_of.0 n.is.before n.is.first) in
-      record { told = (w.0, Of_two n.made_of.0); before = n.is.before; behind = n.is.behind; first = w.1; second = record { made_of = n.made_of.1; is = n.is.second; same = e ∙ ap asking n.same }; spelled = n.is.spelled }
+      record { told = (w.0, Of_two n.made_of.0); before = n.is.before; behind = n.is.behind; first = w.1; second = made_as n.made_of.1 n.is.second (e ∙ ap asking n.same); spelled = n.is.spelled }
   to_question q (inr (inr n)) e =
       let w = known_first format i Of_check n.is.before (check_word i n.is.before n.is.first.1) in
-      record { told = (w.0, Of_check); before = n.is.before; behind = n.is.behind; first = w.1; second = record { made_of = n.made_of.1; is = n.is.second; same = e ∙ ap asking n.same }; spelled = n.is.spelled }
+      record { told = (w.0, Of_check); before = n.is.before; behind = n.is.behind; first = w.1; second = made_as n.made_of.1 n.is.second (e ∙ ap asking n.same); spelled = n.is.spelled }
 
 name_to : (i : ℕ) (a : Stated) (text : List ℕ) → of_name i a text → g.statement formats.Two i a text
 name_to i a text m =
@@ -160,33 +161,13 @@ name_to i a text m =
     let x = m.is.before in
     let y = m.is.behind in
     let n = m.is.second in
-    let inner : g.behind_word formats.Two w Of_name (i + length x) a y = record {
-      made_of = (tt {0}, m.made_of.1.1.1.1);
-      is = record {
-        before = n.before ++ (n.second.before ++ n.second.second.before);
-        behind = n.second.second.behind;
-        first = record {
-          made_of = (m.made_of.1.0, (tt {0}, m.made_of.1.1.1.0));
-          is = record {
-            before = n.before;
-            behind = n.second.before ++ n.second.second.before;
-            first = n.first;
-            second = record { before = n.second.before; behind = n.second.second.before; first = (refl, n.second.first.1); second = n.second.second.first; spelled = refl };
-            spelled = refl;
-          };
-          same = refl;
-        };
-        second = moved (i + length x) n.before n.second.before n.second.second.before m.made_of.1.1.1.1 n.second.second.behind n.second.second.second;
-        spelled = all y n.before n.second.before n.second.second.before n.behind n.second.behind n.second.second.behind n.spelled n.second.spelled n.second.second.spelled;
-      };
-      same = m.same;
-    } in
+    let inner : g.behind_word formats.Two w Of_name (i + length x) a y = made_as (tt {0}, m.made_of.1.1.1.1) (then_as (n.before ++ (n.second.before ++ n.second.second.before)) n.second.second.behind (made_is (m.made_of.1.0, (tt {0}, m.made_of.1.1.1.0)) (then_is n.before (n.second.before ++ n.second.second.before) n.first (then_is n.second.before n.second.second.before (refl, n.second.first.1) n.second.second.first))) (moved (i + length x) n.before n.second.before n.second.second.before m.made_of.1.1.1.1 n.second.second.behind n.second.second.second) (all y n.before n.second.before n.second.second.before n.behind n.second.behind n.second.second.behind n.spelled n.second.spelled n.second.second.spelled)) m.same in
     let free : kind_of w ≡ Of_name = none_among w kinds (not_false (list_any (bytes_eq w) s.question_words) m.is.first.holds) in
     record {
       told = (w, kind_of w);
       before = x;
       behind = y;
-      first = inr (record { made_of = w; is = m.is.first.is; same = refl });
+      first = inr (made_is w m.is.first.is);
       second = subst (λ (z : Kind). g.behind_word formats.Two w z (i + length x) a y) (sym free) inner;
       spelled = m.is.spelled;
     }
@@ -204,17 +185,17 @@ module _ (format : Format) (i : ℕ) (a : Stated) (text word : List ℕ) (k : Ki
   from_one : (ask : Tree → Question) → s.asking i ask x → k ≡ Of_one ask → Made asking (questions format) i a text
   from_one ask q e =
       let m = subst (λ (z : Kind). g.behind_word format word z (i + length x) a y) e second in
-      record { made_of = asked_of ask m.made_of.1; is = inl (record { made_of = (ask, m.made_of); is = record { before = x; behind = y; first = q; second = m.is; spelled = spelled }; same = refl }); same = m.same }
+      made_as (asked_of ask m.made_of.1) (inl (made_is (ask, m.made_of) (then_as x y q m.is spelled))) m.same
 
   from_two : (ask : Tree → Tree → Question) → s.asking_both i ask x → k ≡ Of_two ask → Made asking (questions format) i a text
   from_two ask q e =
       let m = subst (λ (z : Kind). g.behind_word format word z (i + length x) a y) e second in
-      record { made_of = asked_of_both ask m.made_of.1.0 m.made_of.1.1; is = inr (inl (record { made_of = (ask, m.made_of); is = record { before = x; behind = y; first = q; second = m.is; spelled = spelled }; same = refl })); same = m.same }
+      made_as (asked_of_both ask m.made_of.1.0 m.made_of.1.1) (inr (inl (made_is (ask, m.made_of) (then_as x y q m.is spelled)))) m.same
 
   from_check : x ≡ codes "check" → k ≡ Of_check → Made asking (questions format) i a text
   from_check q e =
       let m = subst (λ (z : Kind). g.behind_word format word z (i + length x) a y) e second in
-      record { made_of = checked m.made_of.1.0.0 m.made_of.1.0.1 m.made_of.1.1; is = inr (inr (record { made_of = (tt {0}, m.made_of); is = record { before = x; behind = y; first = (refl, q); second = m.is; spelled = spelled }; same = refl })); same = m.same }
+      made_as (checked m.made_of.1.0.0 m.made_of.1.0.1 m.made_of.1.1) (inr (inr (made_is (tt {0}, m.made_of) (then_as x y (refl, q) m.is spelled)))) m.same
 
   from_known : Among question_kinds i k x → Made asking (questions format) i a text
   from_known (inl w) = from_one value (inl (refl, w.1)) w.0
@@ -236,30 +217,7 @@ from_name i a text word x y l h m spelled =
     let r = b.is.second.behind in
     let z = m.is.behind in
     let here : i + length x + length m.is.before ≡ i + length x + length p + length q + length r = omega (arith, ap length b.is.spelled, length-append p b.is.behind, ap length b.is.second.spelled, length-append q r) in
-    record {
-      made_of = (word, (b.made_of.0, (tt {0}, (b.made_of.1.1, m.made_of.1))));
-      is = record {
-        before = x;
-        behind = y;
-        first = record { is = l; holds = h };
-        second = record {
-          before = p;
-          behind = q ++ (r ++ z);
-          first = b.is.first;
-          second = record {
-            before = q;
-            behind = r ++ z;
-            first = (refl, b.is.second.first.1);
-            second = record { before = r; behind = z; first = b.is.second.second; second = subst (λ (n : ℕ). expr n m.made_of.1 z) here m.is.second; spelled = refl };
-            spelled = refl;
-          };
-          spelled = m.is.spelled ∙ ap (λ (u : List ℕ). u ++ z) (b.is.spelled ∙ ap (λ (u : List ℕ). p ++ u) b.is.second.spelled)
-              ∙ append_assoc p (q ++ r) z ∙ ap (λ (u : List ℕ). p ++ u) (append_assoc q r z);
-        };
-        spelled = spelled;
-      };
-      same = m.same;
-    }
+    made_as (word, (b.made_of.0, (tt {0}, (b.made_of.1.1, m.made_of.1)))) (then_as x y (record { is = l; holds = h }) (then_as p (q ++ (r ++ z)) b.is.first (then_is q (r ++ z) (refl, b.is.second.first.1) (then_is r z b.is.second.second (subst (λ (n : ℕ). expr n m.made_of.1 z) here m.is.second))) (m.is.spelled ∙ ap (λ (u : List ℕ). u ++ z) (b.is.spelled ∙ ap (λ (u : List ℕ). p ++ u) b.is.second.spelled) ∙ append_assoc p (q ++ r) z ∙ ap (λ (u : List ℕ). p ++ u) (append_assoc q r z))) spelled) m.same
 
 module _ (i : ℕ) (a : Stated) (text : List ℕ) where
   from_first : (x y : List ℕ) (w : List ℕ × Kind) → g.first_word formats.Two i w x → g.behind_word formats.Two w.0 w.1 (i + length x) a y → text ≡ x ++ y → statements formats.Two i a text

@@ -10,6 +10,7 @@ use Rattle.cg_grammar.specs.Grammar as s
 use Rattle.cg_query.specs.declared.kind.GameKind.{GameKind}
 use Rattle.cg_query.specs.declared.kind.GameKind.TheVariants.{Domineering, Clobber, Amazons, Toads, Strip, Hackenbush, Col, Snort}
 use Rattle.cg_grammar.proofs.Factored as g
+use Rattle.cg_reading.proofs.Spelled.{then_as, made_as}
 
 -- tiny, boards and octal games, as the grammar has them
 abbrev pub named : Piece Found
@@ -32,10 +33,10 @@ two_word i kind x (inr (inl w)) = inr (inr (inr (inr (inr (inr (inr (inr (inl (a
 two_word i kind x (inr (inr w)) = inr (inr (inr (inr (inr (inr (inr (inr (inr (inl (ap Of_two_texts w.0, w.1))))))))))
 
 to_named : (i : ℕ) (a : Found) (text : List ℕ) → named i a text → g.named i a text
-to_named i a text (inl m) = record { told = Of_tiny m.made_of.0; before = m.is.before; behind = m.is.behind; first = tiny_word i m.made_of.0 m.is.before m.is.first; second = record { made_of = m.made_of.1; is = m.is.second; same = m.same }; spelled = m.is.spelled }
-to_named i a text (inr (inl (inl m))) = record { told = Of_one_text m.made_of.0; before = m.is.before; behind = m.is.behind; first = one_word i m.made_of.0 m.is.before m.is.first; second = record { made_of = m.made_of.1; is = m.is.second; same = m.same }; spelled = m.is.spelled }
-to_named i a text (inr (inl (inr m))) = record { told = Of_two_texts m.made_of.0; before = m.is.before; behind = m.is.behind; first = two_word i m.made_of.0 m.is.before m.is.first; second = record { made_of = m.made_of.1; is = m.is.second; same = m.same }; spelled = m.is.spelled }
-to_named i a text (inr (inr m)) = record { told = Of_octal; before = m.is.before; behind = m.is.behind; first = inr (inr (inr (inr (inr (inr (inr (inr (inr (inr (inl (refl, m.is.first.1))))))))))); second = record { made_of = m.made_of.1; is = m.is.second; same = m.same }; spelled = m.is.spelled }
+to_named i a text (inl m) = record { told = Of_tiny m.made_of.0; before = m.is.before; behind = m.is.behind; first = tiny_word i m.made_of.0 m.is.before m.is.first; second = made_as m.made_of.1 m.is.second m.same; spelled = m.is.spelled }
+to_named i a text (inr (inl (inl m))) = record { told = Of_one_text m.made_of.0; before = m.is.before; behind = m.is.behind; first = one_word i m.made_of.0 m.is.before m.is.first; second = made_as m.made_of.1 m.is.second m.same; spelled = m.is.spelled }
+to_named i a text (inr (inl (inr m))) = record { told = Of_two_texts m.made_of.0; before = m.is.before; behind = m.is.behind; first = two_word i m.made_of.0 m.is.before m.is.first; second = made_as m.made_of.1 m.is.second m.same; spelled = m.is.spelled }
+to_named i a text (inr (inr m)) = record { told = Of_octal; before = m.is.before; behind = m.is.behind; first = inr (inr (inr (inr (inr (inr (inr (inr (inr (inr (inl (refl, m.is.first.1))))))))))); second = made_as m.made_of.1 m.is.second m.same; spelled = m.is.spelled }
 
 module _ (i : ℕ) (a : Found) (text : List ℕ) (t : g.named i a text) where
   tells : (n : Named) → t.told ≡ n → g.behind_named n (i + length t.before) a t.behind
@@ -44,22 +45,22 @@ module _ (i : ℕ) (a : Found) (text : List ℕ) (t : g.named i a text) where
   from_tiny : (miny : Bool) → Or (Word (codes "Tiny") false) (Word (codes "Miny") true) i miny t.before → t.told ≡ Of_tiny miny → named i a text
   from_tiny miny w e =
       let m = tells (Of_tiny miny) e in
-      inl (record { made_of = (miny, m.made_of); is = record { before = t.before; behind = t.behind; first = w; second = m.is; spelled = t.spelled }; same = m.same })
+      inl (made_as (miny, m.made_of) (then_as t.before t.behind w m.is t.spelled) m.same)
 
   from_one : (kind : GameKind) → s.name_of_one i kind t.before → t.told ≡ Of_one_text kind → named i a text
   from_one kind w e =
       let m = tells (Of_one_text kind) e in
-      inr (inl (inl (record { made_of = (kind, m.made_of); is = record { before = t.before; behind = t.behind; first = w; second = m.is; spelled = t.spelled }; same = m.same })))
+      inr (inl (inl (made_as (kind, m.made_of) (then_as t.before t.behind w m.is t.spelled) m.same)))
 
   from_two : (kind : GameKind) → s.name_of_two i kind t.before → t.told ≡ Of_two_texts kind → named i a text
   from_two kind w e =
       let m = tells (Of_two_texts kind) e in
-      inr (inl (inr (record { made_of = (kind, m.made_of); is = record { before = t.before; behind = t.behind; first = w; second = m.is; spelled = t.spelled }; same = m.same })))
+      inr (inl (inr (made_as (kind, m.made_of) (then_as t.before t.behind w m.is t.spelled) m.same)))
 
   from_octal : t.before ≡ codes "Octal" → t.told ≡ Of_octal → named i a text
   from_octal w e =
       let m = tells Of_octal e in
-      inr (inr (record { made_of = (tt {0}, m.made_of); is = record { before = t.before; behind = t.behind; first = (refl, w); second = m.is; spelled = t.spelled }; same = m.same }))
+      inr (inr (made_as (tt {0}, m.made_of) (then_as t.before t.behind (refl, w) m.is t.spelled) m.same))
 
   from_named : Among named_words i t.told t.before → named i a text
   from_named (inl w) = from_tiny false (inl (refl, w.1)) w.0

@@ -26,6 +26,7 @@ use Rattle.cg_grammar.proofs.Lists.{item_list_is, row_list_is}
 use Rattle.cg_grammar.proofs.Plain.{counted_term_is, whole_term_is}
 use Rattle.cg_grammar.proofs.TokenProductions.{nothing_text, ups_token, nim_ok, ups_tree_ok, optional_nim, no_nim}
 use Rattle.cg_grammar.proofs.TokenProductions.{tail_follow, tail_ok, empty_tail, nim_text, number_follow}
+use Rattle.cg_reading.proofs.Spelled.{then_is, made_is}
 
 -- ---- terms
 
@@ -43,7 +44,7 @@ sum_follow = (97, 122) ∷ (48, 57) ∷ (94, 94) ∷ (42, 42) ∷ (47, 47) ∷ (
 abbrev pub token_bytes : Class
 token_bytes = (97, 122) ∷ (48, 57) ∷ (94, 94) ∷ []
 
-pub letters_bound : (word : List ℕ) → inside (more_letters word) token_bytes ≡ true
+letters_bound : (word : List ℕ) → inside (more_letters word) token_bytes ≡ true
 letters_bound [] = refl
 letters_bound (b ∷ bs) = more_inside letter_or_digit token_bytes refl 15 bs
 
@@ -192,7 +193,7 @@ module _ (E : Piece Found) (e : Reader Found) (le : Lawful E e term_begin false 
   side_ok = wide_ok side_begin side_follow (made_ok (λ v. v.1) (then_ok (bytes_lawful blank) (or_ok item_list_ok (nothing_lawful []) refl) items_text refl)) refl refl
 
   empty_side : (j : ℕ) → g.side E j [] []
-  empty_side j = record { made_of = ([], []); is = record { before = []; behind = []; first = record { within = refl; spelled = refl }; second = inr (refl, refl); spelled = refl }; same = refl }
+  empty_side j = made_is ([], []) (then_is [] [] (record { within = refl; spelled = refl }) (inr (refl, refl)))
 
   side_text : (j : ℕ) → Some_text (g.side E) j
   side_text j = record { value = []; text = []; is = empty_side j }

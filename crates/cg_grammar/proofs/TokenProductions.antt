@@ -24,6 +24,7 @@ use Rattle.cg_grammar.specs.Reading.{arrow, star, plain_begin}
 use Rattle.cg_grammar.proofs.Factored as g
 use Rattle.cg_grammar.proofs.Plain.{ups_is}
 use Rattle.cg_grammar.proofs.SameArrows.{ups_same}
+use Rattle.cg_reading.proofs.Spelled.{then_is}
 
 abbrev over : Piece ℕ
 over = Or (Made (λ v. v.1) (Then (One (only 47)) digits)) (Nothing 1)
@@ -124,7 +125,7 @@ unfolding r.tail_at
 tail_ok = wide_ok tail_begin tail_follow (then_ok optional_ups optional_nim no_nim refl) refl refl
 
 pub empty_tail : (j : ℕ) → (v : Option Tree × Option Tree) × s.tail j v []
-empty_tail j = ((None, None), record { before = []; behind = []; first = inr (refl, refl); second = inr (refl, refl); spelled = refl })
+empty_tail j = ((None, None), then_is [] [] (inr (refl, refl)) (inr (refl, refl)))
 
 nim_count_text : (j : ℕ) → Some_text (Or digits (Nothing 1)) j
 nim_count_text j = right_text j (nothing_text 1 j)

@@ -10,6 +10,7 @@ use Rattle.cg_grammar.specs.Found.{Found}
 use Rattle.cg_grammar.specs.Grammar as grammar
 use Rattle.cg_grammar.specs.Grammar.{bar, comma}
 use Rattle.cg_grammar.specs.Values.{braces_of, clean}
+use Rattle.cg_reading.proofs.Spelled.{made_as}
 
 -- ---- sides
 
@@ -52,18 +53,4 @@ pub braces_are : (S : Piece (List Found)) (i : ℕ) (ls rs : List Tree) (left ri
 unfolding one_run
 braces_are S i ls rs left right l r ends =
     let column : ℕ = i + 1 + length left in
-    record {
-      made_of = (123, (map clean ls, (((column, 1), map clean rs) ∷ [], 125)));
-      is = byte_then 123 (left ++ (124 ∷ (right ++ (125 ∷ [])))) refl
-          (then_is left (124 ∷ (right ++ (125 ∷ []))) (l (i + 1)) (then_is (124 ∷ right) (125 ∷ []) (made_is (((column, 1), map clean rs), []) (record {
-            run = 124 ∷ [];
-            middle = right;
-            more = [];
-            is_run = (refl, made_is (124 ∷ []) (record { within = refl; some = omega arith; few = omega arith; spelled = refl }));
-            is_side = r (column + 1);
-            is_more = refl;
-            no_bar = ends;
-            spelled = ap (λ z. 124 ∷ z) (sym (append-nil right));
-          })) (byte_is 125 refl)));
-      same = braces_value ls rs column;
-    }
+    made_as (123, (map clean ls, (((column, 1), map clean rs) ∷ [], 125))) (byte_then 123 (left ++ (124 ∷ (right ++ (125 ∷ [])))) refl (then_is left (124 ∷ (right ++ (125 ∷ []))) (l (i + 1)) (then_is (124 ∷ right) (125 ∷ []) (made_is (((column, 1), map clean rs), []) (record { run = 124 ∷ []; middle = right; more = []; is_run = (refl, made_is (124 ∷ []) (record { within = refl; some = omega arith; few = omega arith; spelled = refl })); is_side = r (column + 1); is_more = refl; no_bar = ends; spelled = ap (λ z. 124 ∷ z) (sym (append-nil right)) })) (byte_is 125 refl)))) (braces_value ls rs column)

@@ -4,7 +4,7 @@ use Rattle.std.specs.Prelude.{codes}
 use Rattle.cg_reading.specs.Pieces.{Piece}
 use Rattle.cg_grammar.specs.Found.{Found}
 use Rattle.cg_grammar.specs.Grammar as grammar
-use Rattle.cg_grammar.specs.Grammar.{comma, special}
+use Rattle.cg_grammar.specs.Grammar.{special}
 use Rattle.cg_query.specs.declared.format.Format.TheVariants as formats
 use Rattle.cg_query.specs.Tree.{Tree, switch, tiny}
 use Rattle.cg_grammar.specs.Values.{In_none, clean}

@@ -13,6 +13,7 @@ use Rattle.cg_grammar.specs.Values.{ups_tree}
 use Rattle.cg_grammar.specs.Written.{fraction_text, quoted, ups_text, IsPrintable}
 use Rattle.cg_reading.proofs.Spelled.{byte_is, byte_then, bytes_are, made_is, no_bytes_then, then_is}
 use Rattle.cg_reading.proofs.Texts.{digits_are}
+use Rattle.cg_reading.proofs.Spelled.{made_as}
 
 -- ---- numbers, arrows and texts
 
@@ -42,11 +43,7 @@ one_arrow d (suc n) = by (has (only (arrow_of d)) (arrow_of d)) (itself d) (one_
 -- a run of arrows, and an arrow with its count
 pub arrow_run : (i : ℕ) (d : Bool) (n : ℕ) (more : List ℕ) → length more ≡ n → list_all (has (only (arrow_of d))) more ≡ true
     → grammar.arrows d (arrow_of d) i (record { down = d; count = suc n; is_run = true }) (arrow_of d ∷ more)
-arrow_run i d n more e h = inl (record {
-  made_of = (arrow_of d, more);
-  is = byte_then (arrow_of d) more (itself d) (bytes_are h);
-  same = ap (λ (k : ℕ). record { down = d; count = suc k; is_run = true }) (sym e);
-})
+arrow_run i d n more e h = inl (made_as (arrow_of d, more) (byte_then (arrow_of d) more (itself d) (bytes_are h)) (ap (λ (k : ℕ). record { down = d; count = suc k; is_run = true }) (sym e)))
 
 pub arrow_count : (i : ℕ) (d : Bool) (n : ℕ) → n < 10 ^ 30
     → grammar.arrows d (arrow_of d) i (record { down = d; count = n; is_run = false }) (arrow_of d ∷ decimal n)

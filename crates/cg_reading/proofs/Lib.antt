@@ -2,6 +2,7 @@ pub mod Sets
 pub mod Laws
 pub mod Steps
 pub mod ByteRuns
+pub mod OneWord
 pub mod Many
 pub mod Longest
 pub mod Same

@@ -6,8 +6,8 @@ use Rattle.std.proofs.lemmas.Bool.{and_parts}
 use Rattle.cg_reading.specs.Bytes.{Class, has, Ends, Begins}
 use Rattle.cg_reading.specs.Pieces.{Few, more_of}
 use Rattle.cg_reading.specs.Readers.{Read, ◌>>=◌, most_at, most_skipped}
-use Rattle.cg_reading.proofs.Laws.{kept, past, Agree, Outcome, left_made, made_agree, outcome_left}
-use Rattle.cg_reading.proofs.ByteRuns.{few_more, few_none, all_begin}
+use Rattle.cg_reading.proofs.Laws.{kept, past, Agree, Outcome, cond_agree, cond_sound, left, made_agree, outcome_left}
+use Rattle.cg_reading.proofs.ByteRuns.{few_more, few_none, all_begin, push_byte}
 use Rattle.cg_reading.proofs.Longest.{Full, Token}
 use Rattle.cg_reading.proofs.Sets.{apart, inside, no_class}
 
@@ -16,13 +16,12 @@ module _ (c : Class) where
   most_sound zero end i [] = few_none c zero i []
   most_sound (suc room) end i [] = few_none c (suc room) i []
   most_sound zero end i (b ∷ bytes) = few_none c zero i (b ∷ bytes)
-  most_sound (suc room) end i (b ∷ bytes) = chosen (has c b) refl (most_sound room end i bytes)
-    where
-      chosen : (t : Bool) → has c b ≡ t → Outcome (Few c room) i bytes (most_at c room end bytes) → Outcome (Few c (suc room)) i (b ∷ bytes) (cond t (most_at c room end bytes >>= λ v. Ok (b ∷ v.0, v.1)) (Ok ([], b ∷ bytes)))
-      chosen true h o = few_more c room b i bytes (most_at c room end bytes) h o
-      chosen false h o = few_none c (suc room) i (b ∷ bytes)
+  most_sound (suc room) end i (b ∷ bytes) =
+      cond_sound (Few c (suc room)) i (b ∷ bytes) (push_byte b (most_at c room end bytes)) (Ok ([], b ∷ bytes)) (has c b)
+      (λ h. few_more c room b i bytes (most_at c room end bytes) h (most_sound room end i bytes)) (λ _. few_none c (suc room) i (b ∷ bytes))
 
-  most_again : (room end : ℕ) (bs rest : List ℕ) → list_all (has c) bs ≡ true → length bs ≤ room → Ends (more_of c room bs) rest → most_at c room end (bs ++ rest) ≡ Ok (bs, rest)
+  most_again : (room end : ℕ) (bs rest : List ℕ) → list_all (has c) bs ≡ true → length bs ≤ room → Ends (more_of c room bs) rest
+      → most_at c room end (bs ++ rest) ≡ Ok (bs, rest)
   most_again zero end [] [] all u h = refl
   most_again (suc room) end [] [] all u h = refl
   most_again zero end [] (x ∷ rest) all u h = refl
@@ -32,19 +31,22 @@ module _ (c : Class) where
       let p = and_parts (has c b) (list_all (has c) bs) all in
       rw (p.0, most_again room end bs rest p.1 (omega arith) h) refl
 
+  most_left : (room end : ℕ) (bytes : List ℕ) → left (most_at c room end bytes) ≤ length bytes
+  most_left room end bytes = outcome_left (Few c room) 0 bytes (most_at c room end bytes) (most_sound room end 0 bytes)
+
   most_agree : (room end last : ℕ) (p : List ℕ) (x : ℕ) (q r : List ℕ) → Agree x q r (most_at c room end (p ++ x ∷ q)) (most_at c room last (p ++ x ∷ r))
   most_agree zero end last [] x q r = kept [] [] refl refl
   most_agree zero end last (b ∷ p) x q r = kept [] (b ∷ p) refl refl
-  most_agree (suc room) end last [] x q r = chosen (has c x)
-    where
-      chosen : (t : Bool) → Agree x q r (cond t (most_at c room end q >>= λ v. Ok (x ∷ v.0, v.1)) (Ok ([], x ∷ q))) (cond t (most_at c room last r >>= λ v. Ok (x ∷ v.0, v.1)) (Ok ([], x ∷ r)))
-      chosen true = past (omega (arith, left_made (most_at c room end q) (λ v. x ∷ v), outcome_left (Few c room) 0 q (most_at c room end q) (most_sound room end 0 q))) (omega (arith, left_made (most_at c room last r) (λ v. x ∷ v), outcome_left (Few c room) 0 r (most_at c room last r) (most_sound room last 0 r)))
-      chosen false = kept [] [] refl refl
-  most_agree (suc room) end last (b ∷ p) x q r = chosen (has c b) (most_agree room end last p x q r)
-    where
-      chosen : (t : Bool) → Agree x q r (most_at c room end (p ++ x ∷ q)) (most_at c room last (p ++ x ∷ r)) → Agree x q r (cond t (most_at c room end (p ++ x ∷ q) >>= λ v. Ok (b ∷ v.0, v.1)) (Ok ([], b ∷ (p ++ x ∷ q)))) (cond t (most_at c room last (p ++ x ∷ r) >>= λ v. Ok (b ∷ v.0, v.1)) (Ok ([], b ∷ (p ++ x ∷ r))))
-      chosen true a = made_agree (λ v. b ∷ v) x q r (most_at c room end (p ++ x ∷ q)) (most_at c room last (p ++ x ∷ r)) a
-      chosen false a = kept [] (b ∷ p) refl refl
+  most_agree (suc room) end last [] x q r =
+      let y = most_at c room end q in
+      let z = most_at c room last r in
+      cond_agree x q r (push_byte x y) (Ok ([], x ∷ q)) (push_byte x z) (Ok ([], x ∷ r)) (has c x)
+      (made_agree (λ bs. x ∷ bs) x q r y z (past (most_left room end q) (most_left room last r))) (kept [] [] refl refl)
+  most_agree (suc room) end last (b ∷ p) x q r =
+      let y = most_at c room end (p ++ x ∷ q) in
+      let z = most_at c room last (p ++ x ∷ r) in
+      cond_agree x q r (push_byte b y) (Ok ([], b ∷ (p ++ x ∷ q))) (push_byte b z) (Ok ([], b ∷ (p ++ x ∷ r))) (has c b)
+      (made_agree (λ bs. b ∷ bs) x q r y z (most_agree room end last p x q r)) (kept [] (b ∷ p) refl refl)
 
   full_more : (room b : ℕ) (x : Read (List ℕ)) → Full (more_of c room) x → Full (more_of c (suc room)) (x >>= λ v. Ok (b ∷ v.0, v.1))
   full_more room b (Ok v) k = k
@@ -56,15 +58,20 @@ module _ (c : Class) where
   most_full zero end (b ∷ bytes) = no_class (b ∷ bytes)
   most_full (suc room) end (b ∷ bytes) = chosen (has c b) refl (most_full room end bytes)
     where
-      chosen : (t : Bool) → has c b ≡ t → Full (more_of c room) (most_at c room end bytes) → Full (more_of c (suc room)) (cond t (most_at c room end bytes >>= λ v. Ok (b ∷ v.0, v.1)) (Ok ([], b ∷ bytes)))
+      chosen : (t : Bool) → has c b ≡ t → Full (more_of c room) (most_at c room end bytes)
+          → Full (more_of c (suc room)) (cond t (push_byte b (most_at c room end bytes)) (Ok ([], b ∷ bytes)))
       chosen true h k = full_more room b (most_at c room end bytes) k
       chosen false h k = h
 
   pub most_token : (room : ℕ) → Token (Few c room) (most_at c room) c true [] (more_of c room)
   most_token room = record {
-    reads = record { sound = λ end i bytes n. most_sound room end i bytes; agree = λ end last i p x q r m n. most_agree room end last p x q r; begins = λ i bs text is. subst (λ (z : List ℕ). Begins c true z) (sym is.spelled) (all_begin c bs is.within) };
+    reads = record {
+      sound = λ end i bytes n. most_sound room end i bytes;
+      agree = λ end last i p x q r m n. most_agree room end last p x q r;
+      begins = λ i bs text is. subst (Begins c true) (sym is.spelled) (all_begin c bs is.within);
+    };
     full = most_full room;
-    again = λ end i bs text rest is h k n. subst (λ (z : List ℕ). most_at c room end (z ++ rest) ≡ Ok (bs, rest)) (sym is.spelled) (most_again room end bs rest is.within is.few k);
+    again = λ end i bs text rest is h k n. rw is.spelled (most_again room end bs rest is.within is.few k);
   }
 
 -- ---- what would still belong to them
@@ -80,9 +87,6 @@ more_apart c d h k (suc most) [] = h
 more_apart c d h k (suc most) (b ∷ bs) = more_apart c d h k most bs
 
 -- ---- what is taken, by what is left behind it
-
-abbrev behind_byte : ℕ → List ℕ → Read (List ℕ) → Read (List ℕ)
-behind_byte b bytes x = x >>= λ v. Ok (b ∷ v.0, v.1)
 
 skipped_within : (c : Class) (room : ℕ) (bytes : List ℕ) → length (most_skipped c room bytes) ≤ length bytes
 skipped_within c zero bytes = omega arith
@@ -113,8 +117,10 @@ most_is c (suc room) end [] = refl
 most_is c zero end (b ∷ bytes) = ap (λ (z : List ℕ). Ok (z, b ∷ bytes)) (sym (none_taken (b ∷ bytes)))
 most_is c (suc room) end (b ∷ bytes) = chosen (has c b) (most_is c room end bytes)
   where
-    chosen : (t : Bool) → most_at c room end bytes ≡ Ok (take (length bytes - length (most_skipped c room bytes)) bytes, most_skipped c room bytes) → cond {A = Read (List ℕ)} t (behind_byte b bytes (most_at c room end bytes)) (Ok ([], b ∷ bytes)) ≡ Ok (take (length (b ∷ bytes) - length (cond t (most_skipped c room bytes) (b ∷ bytes))) (b ∷ bytes), cond t (most_skipped c room bytes) (b ∷ bytes))
-    chosen true h = ap (behind_byte b bytes) h ∙ ap (λ (z : List ℕ). Ok (z, most_skipped c room bytes)) (sym (one_more_taken b bytes (most_skipped c room bytes) (skipped_within c room bytes)))
+    chosen : (t : Bool) → most_at c room end bytes ≡ Ok (take (length bytes - length (most_skipped c room bytes)) bytes, most_skipped c room bytes)
+        → cond {A = Read (List ℕ)} t (push_byte b (most_at c room end bytes)) (Ok ([], b ∷ bytes))
+        ≡ Ok (take (length (b ∷ bytes) - length (cond t (most_skipped c room bytes) (b ∷ bytes))) (b ∷ bytes), cond t (most_skipped c room bytes) (b ∷ bytes))
+    chosen true h = ap (push_byte b) h ∙ ap (λ (z : List ℕ). Ok (z, most_skipped c room bytes)) (sym (one_more_taken b bytes (most_skipped c room bytes) (skipped_within c room bytes)))
     chosen false h = ap (λ (z : List ℕ). Ok (z, b ∷ bytes)) (sym (none_taken (b ∷ bytes)))
 
 -- one byte and so many more at most

@@ -129,3 +129,8 @@ wider_ends c d (x ∷ rest) h b = false_from_ne_true (has c x) (λ (k : has c x 
 pub no_class : (rest : List ℕ) → Ends [] rest
 no_class [] = tt
 no_class (b ∷ rest) = refl
+
+-- what a text begins with goes on
+pub first_begins : (I : Class) (x y : List ℕ) → Begins I false x → Begins I true (x ++ y)
+first_begins I [] y b = absurd cc
+first_begins I (v ∷ x) y b = b

@@ -1,12 +1,13 @@
 -- That a text is a piece, from the texts of the piece's parts.
-use Rattle.std.proofs.Common.{◌≡◌, refl, sym, ℕ, ◌+◌, Bool, true, List, [], ◌∷◌, ◌++◌, append-nil, length}
+use Rattle.std.proofs.Common.{◌≡◌, refl, sym, ℕ, ◌+◌, true, List, [], ◌∷◌, ◌++◌, append-nil, length}
 use Rattle.std.specs.List.{list_all}
 use Rattle.cg_reading.specs.Bytes.{Class, has}
 use Rattle.cg_reading.specs.Pieces.{Piece, Split, Made, One, Bytes, Longest}
 use Rattle.cg_reading.specs.Tokens.{behind_blanks, gap, with_blanks}
 
 -- one text and then another
-pub then_as : {P : List ℕ → Type 0} {Q : ℕ → List ℕ → Type 0} {text : List ℕ} (x y : List ℕ) → P x → Q (length x) y → text ≡ x ++ y → Split P Q text
+pub then_as : {P : List ℕ → Type 0} {Q : ℕ → List ℕ → Type 0} {text : List ℕ} (x y : List ℕ)
+    → P x → Q (length x) y → text ≡ x ++ y → Split P Q text
 then_as x y first second spelled = record { before = x; behind = y; first = first; second = second; spelled = spelled }
 
 pub then_is : {P : List ℕ → Type 0} {Q : ℕ → List ℕ → Type 0} (x y : List ℕ) → P x → Q (length x) y → Split P Q (x ++ y)
@@ -31,11 +32,15 @@ pub no_bytes_then : {Q : ℕ → List ℕ → Type 0} {c : Class} {i : ℕ} (y :
 no_bytes_then y second = then_is [] y (bytes_are refl) second
 
 -- a function of a piece's value
+pub made_as : {A B : Type 0} {h : A → B} {R : Piece A} {i : ℕ} {b : B} {text : List ℕ} (a : A) → R i a text → b ≡ h a → Made h R i b text
+made_as a is same = record { made_of = a; is = is; same = same }
+
 pub made_is : {A B : Type 0} {h : A → B} {R : Piece A} {i : ℕ} {text : List ℕ} (a : A) → R i a text → Made h R i (h a) text
 made_is a is = record { made_of = a; is = is; same = refl }
 
 -- a piece as long as possible, with nothing behind it
-pub longest_none : {A B : Type 0} {more : A → Class} {R : Piece A} {S : Piece B} {i : ℕ} {v : A × B} (x : List ℕ) → R i v.0 x → S (i + length x) v.1 [] → Longest more R S i v x
+pub longest_none : {A B : Type 0} {more : A → Class} {R : Piece A} {S : Piece B} {i : ℕ} {v : A × B} (x : List ℕ)
+    → R i v.0 x → S (i + length x) v.1 [] → Longest more R S i v x
 longest_none x first second = record { before = x; behind = []; first = first; second = second; ended = tt; spelled = sym (append-nil x) }
 
 -- ---- blanks

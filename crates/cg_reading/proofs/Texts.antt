@@ -6,6 +6,7 @@ use Rattle.std.proofs.lemmas.Fmt.{decimal_by_steps_wide, decimal_is_IsNumeral_wi
 use Rattle.std.proofs.lemmas.Bool.Decides.{nat_tests}
 use Rattle.cg_reading.specs.Bytes.{has}
 use Rattle.cg_reading.specs.Tokens.{digit, digits}
+use Rattle.cg_reading.proofs.Spelled.{made_as}
 
 -- ---- digits
 
@@ -44,9 +45,5 @@ decimal_digits n l = decimal_by_steps_wide (λ m ds. Digits ds) one_digit
     (λ m ds t d. more_digits (m % 10) ds d (omega arith)) n (short n l)
 
 pub digits_are : (i n : ℕ) → n < 10 ^ 30 → digits i n (decimal n)
-digits_are i n l = record {
-  made_of = decimal n;
-  is = let d = decimal_digits n l in
-      record { within = d.within; some = d.some; few = length-decimal-le_wide 30 n (omega arith) l (short n l); spelled = refl };
-  same = sym (decimal_is_IsNumeral_wide n (short n l)).1;
-}
+digits_are i n l = made_as (decimal n) (let d = decimal_digits n l in
+    record { within = d.within; some = d.some; few = length-decimal-le_wide 30 n (omega arith) l (short n l); spelled = refl }) (sym (decimal_is_IsNumeral_wide n (short n l)).1)

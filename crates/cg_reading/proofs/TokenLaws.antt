@@ -6,7 +6,8 @@ use Rattle.cg_reading.specs.Pieces.{One, Word}
 use Rattle.cg_reading.specs.Tokens.{only, blank, digit, few_digits, digits, blanks, some_blanks, gap}
 use Rattle.cg_reading.specs.TokenReaders.{byte_at, some_blanks_at, gap_at, few_digits_at, digits_at, this_word_at}
 use Rattle.cg_reading.proofs.Laws.{Lawful, Some_text, same_ok}
-use Rattle.cg_reading.proofs.ByteRuns.{one_lawful, one_text, bytes_lawful, no_text, run_lawful, run_text, word_lawful}
+use Rattle.cg_reading.proofs.ByteRuns.{one_lawful, one_text, bytes_lawful, no_text, run_lawful, run_text}
+use Rattle.cg_reading.proofs.OneWord.{word_lawful}
 use Rattle.cg_reading.proofs.Rules.{then_ok, made_ok, then_text, made_text}
 use Rattle.cg_reading.proofs.DigitLemmas.{few_digits_at_is}
 

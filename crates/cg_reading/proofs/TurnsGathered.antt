@@ -21,7 +21,7 @@ module _ {A B : Type 0} (E : Piece (A ⊎ B)) (f : Reader (A ⊎ B)) (g : Reader
   same_turn end i bytes h k (Err n) m o same = refl
   same_turn end i bytes h k (Ok (inr b, rest)) m o same = refl
   same_turn end i bytes h k (Ok (inl a, rest)) m o same =
-      let b' = behind E i bytes (inl a) rest o in
+      let b' = behind o in
       let some = some_length E f I [] o.text (lf.begins i (inl a) o.text o.is) in
       ap (one_first a) (same (i + length o.text) rest (b' ∙ m) (omega (arith, b', some)))
 

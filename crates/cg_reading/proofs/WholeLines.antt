@@ -7,6 +7,7 @@ use Rattle.cg_reading.specs.Pieces.{Piece}
 use Rattle.cg_reading.specs.Readers.{Read, Reader, whole_of, whole_at}
 use Rattle.cg_reading.specs.Column.{Begun, Stops}
 use Rattle.cg_reading.proofs.Laws.{kept, stuck, past, Agree, Alive, Lawful, Outcome}
+use Rattle.cg_reading.proofs.Laws.{begun_as}
 
 abbrev fine : {A : Type 0} → A → Result A ℕ
 fine a = Ok a
@@ -56,7 +57,7 @@ module _ {A : Type 0} (R : Piece A) (f : Reader A) (I : Class) (e : Bool) (F : C
   whole_alive_of : (line : List ℕ) (x : Read A) (n : ℕ) → Outcome R 1 line x → whole_of x ≡ Err n → Alive R 1 line n
   whole_alive_of line (Ok (b, [])) n o h = absurd (failed_is n b (sym h))
   whole_alive_of line (Ok (b, c ∷ rest)) n o h =
-      record { taken = o.text; rest = c ∷ rest; more = []; value = b; is = subst (λ (z : List ℕ). R 1 b z) (sym (append-nil o.text)) o.is; split = o.split; stuck = fault_is (length (c ∷ rest)) n h }
+      begun_as o.text (c ∷ rest) [] b (subst (λ (z : List ℕ). R 1 b z) (sym (append-nil o.text)) o.is) o.split (fault_is (length (c ∷ rest)) n h)
   whole_alive_of line (Err m) n o h = subst (λ (z : ℕ). Alive R 1 line z) (fault_is m n h) o
 
   -- where whole reading stops at a byte, reading stops there, too

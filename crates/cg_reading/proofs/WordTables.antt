@@ -8,8 +8,9 @@ use Rattle.cg_reading.specs.Bytes.{Class, has, Begins}
 use Rattle.cg_reading.specs.Pieces.{Piece, Word}
 use Rattle.cg_reading.specs.Readers.{Read, word_at}
 use Rattle.cg_reading.specs.Words.{Table, is_front, is_apart, is_prefix_free, Among, either_read, among_at}
-use Rattle.cg_reading.proofs.ByteRuns.{word_sound, word_again, word_agree}
+use Rattle.cg_reading.proofs.OneWord.{word_sound, word_again, word_agree}
 use Rattle.cg_reading.proofs.Laws.{kept, stuck, past, Agree, Lawful, Outcome, Takes, left, outcome_left}
+use Rattle.cg_reading.proofs.Laws.{takes_as, begun_as}
 
 -- ---- fronts
 
@@ -69,13 +70,13 @@ module _ {A : Type 0} where
   either_agree c q r x y u v (past g h) b far near = past (first_left (length q) x u g (far g)) (first_left (length r) y v h (near h))
 
   either_sound : (R S : Piece A) (i : ℕ) (bytes : List ℕ) (x y : Read A) → Outcome R i bytes x → Outcome S i bytes y → Outcome (λ i a t. R i a t ⊎ S i a t) i bytes (either_read x y)
-  either_sound R S i bytes (Ok v) y o u = record { text = o.text; is = inl o.is; split = o.split }
-  either_sound R S i bytes (Err m) (Ok v) o u = record { text = u.text; is = inr u.is; split = u.split }
+  either_sound R S i bytes (Ok v) y o u = takes_as o.text (inl o.is) o.split
+  either_sound R S i bytes (Err m) (Ok v) o u = takes_as u.text (inr u.is) u.split
   either_sound R S i bytes (Err m) (Err n) o u = chosen (leb m n) refl
     where
       chosen : (t : Bool) → leb m n ≡ t → Outcome (λ i a t. R i a t ⊎ S i a t) i bytes (Err (min m n))
-      chosen true h = record { taken = o.taken; rest = o.rest; more = o.more; value = o.value; is = inl o.is; split = o.split; stuck = o.stuck ∙ sym (min-eq_left (leb-true m n h)) }
-      chosen false h = record { taken = u.taken; rest = u.rest; more = u.more; value = u.value; is = inr u.is; split = u.split; stuck = u.stuck ∙ sym (min-eq_right (omega (arith, leb-false m n h))) }
+      chosen true h = begun_as o.taken o.rest o.more o.value (inl o.is) o.split (o.stuck ∙ sym (min-eq_left (leb-true m n h)))
+      chosen false h = begun_as u.taken u.rest u.more u.value (inr u.is) u.split (u.stuck ∙ sym (min-eq_right (omega (arith, leb-false m n h))))
 
   -- ---- words
 
@@ -109,8 +110,8 @@ module _ {A : Type 0} where
   among_sound w [] end i bytes = single (word_at w.0 w.1 end bytes) (word_sound w.1 w.0 end i bytes)
     where
       single : (x : Read A) → Outcome (Word w.0 w.1) i bytes x → Outcome (Among (w ∷ [])) i bytes (either_read x (Err (length bytes)))
-      single (Ok v) o = record { text = o.text; is = inl o.is; split = o.split }
-      single (Err m) o = record { taken = o.taken; rest = o.rest; more = o.more; value = o.value; is = inl o.is; split = o.split; stuck = o.stuck ∙ sym (min-eq_left (outcome_left (Word w.0 w.1) i bytes (Err m) o)) }
+      single (Ok v) o = takes_as o.text (inl o.is) o.split
+      single (Err m) o = begun_as o.taken o.rest o.more o.value (inl o.is) o.split (o.stuck ∙ sym (min-eq_left (outcome_left (Word w.0 w.1) i bytes (Err m) o)))
   among_sound w (v ∷ ws) end i bytes =
       either_sound (Word w.0 w.1) (Among (v ∷ ws)) i bytes (word_at w.0 w.1 end bytes) (among_at (v ∷ ws) end bytes) (word_sound w.1 w.0 end i bytes) (among_sound v ws end i bytes)
 

@@ -28,7 +28,8 @@ or_at c f g end (b ∷ bytes) = cond (has c b) (f end (b ∷ bytes)) (g end (b �
 abbrev pub many_from : {A : Type 0} → Class → Reader A → ℕ → Reader (List A)
 many_from c f zero end bytes = Ok ([], bytes)
 many_from c f (suc turns) end [] = Ok ([], [])
-many_from c f (suc turns) end (b ∷ bytes) = cond (has c b) (f end (b ∷ bytes) >>= λ x. many_from c f turns end x.1 >>= λ xs. Ok (x.0 ∷ xs.0, xs.1)) (Ok ([], b ∷ bytes))
+many_from c f (suc turns) end (b ∷ bytes) =
+    cond (has c b) (f end (b ∷ bytes) >>= λ x. many_from c f turns end x.1 >>= λ xs. Ok (x.0 ∷ xs.0, xs.1)) (Ok ([], b ∷ bytes))
 
 abbrev pub many_at : {A : Type 0} → Class → Reader A → Reader (List A)
 many_at c f end bytes = many_from c f (length bytes) end bytes

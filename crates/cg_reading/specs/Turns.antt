@@ -1,6 +1,6 @@
 -- Pieces of one kind and then pieces of another, where only the middle of a piece tells its kind.
 use Rattle.std.specs.Prelude.{ℕ, zero, suc, cond, List, [], ◌∷◌, ◌++◌, length, Ok, ◌⊎◌}
-use Rattle.std.proofs.Common.{inl, inr}
+use mathlib.Core.Logic.{inl, inr}
 use Rattle.cg_reading.specs.Bytes.{Class, has}
 use Rattle.cg_reading.specs.Pieces.{Piece}
 use Rattle.cg_reading.specs.Readers.{Read, Reader, ◌>>=◌}
@@ -26,7 +26,9 @@ one_second b read = read >>= λ y. Ok (([], b ∷ y.0), y.1)
 abbrev pub turns_from : {A B : Type 0} → Class → Reader (A ⊎ B) → Reader (List B) → ℕ → Reader (List A × List B)
 turns_from c f g zero end bytes = Ok (([], []), bytes)
 turns_from c f g (suc turns) end [] = Ok (([], []), [])
-turns_from c f g (suc turns) end (b ∷ bytes) = cond (has c b) (f end (b ∷ bytes) >>= λ x. by_kind (λ a. one_first a (turns_from c f g turns end x.1)) (λ s. one_second s (g end x.1)) x.0) (Ok (([], []), b ∷ bytes))
+turns_from c f g (suc turns) end (b ∷ bytes) =
+    cond (has c b) (f end (b ∷ bytes) >>= λ x. by_kind (λ a. one_first a (turns_from c f g turns end x.1)) (λ s. one_second s (g end x.1)) x.0)
+    (Ok (([], []), b ∷ bytes))
 
 abbrev pub turns_at : {A B : Type 0} → Class → Reader (A ⊎ B) → Reader (List B) → Reader (List A × List B)
 turns_at c f g end bytes = turns_from c f g (length bytes) end bytes
