@@ -17,7 +17,7 @@ use Rattle.cg_form.proofs.Among.{among-append_left, among-append_right, carry, t
 use Rattle.cg_form.proofs.Firsts.{extended-among, extended-append, extended-has, extended-length}
 use Rattle.cg_form.proofs.Structure.{games}
 use Rattle.cg_arena.specs.Arena.{IsIndex, game_of, games_of}
-use Rattle.cg_arena.proofs.Interning.{game_before, games_before}
+use Rattle.cg_arena.proofs.Slices.{game_before, games_before}
 use Rattle.cg_arena.proofs.Slices.{games_pushed, item_among}
 use Rattle.cg_canon.specs.declared.walk.Position.{Position}
 use Rattle.cg_canon.specs.declared.walk.Walk.{Walk}

@@ -2,7 +2,7 @@
 //!
 //! A public call on handles asks for an index where it begins and for a handle where it ends. The arena only grows, so
 //! what holds at an index stays.
-ghost use Rattle.std.specs.Prelude.{IfOk};
+ghost use Rattle.std.specs.Prelude.{◌≡◌, ℕ, IfOk};
 ghost use Rattle.cg_form.specs.Canonical.{Canonical};
 ghost use Rattle.cg_cells.specs.Store.{Spends};
 ghost use Rattle.cg_nodes.specs.Games.{IsGame, StandsFor, game_at};
@@ -56,5 +56,14 @@ impl<'a, B: BoardForms, S: CellStore<GameFacts<B>>> Work<'a, B, S> {
         ensures { IsSummary (game_of self.now.arena index) result.now }
     {
         self.cache.memo.interner.arena.summary(index)
+    }
+
+    /// Fact: the games at different indexes are different. The call does nothing.
+    #[inline(always)]
+    pub fn distinct_at(&self)
+        ensures { (i j : ℕ) → IsIndex self.now.arena i → IsIndex self.now.arena j
+            → game_of self.now.arena i ≡ game_of self.now.arena j → i ≡ j }
+    {
+        self.store.apart();
     }
 }
