@@ -7,10 +7,13 @@ use Rattle.cg_grammar.specs.Found.{Found}
 use Rattle.cg_reading.specs.Tokens.{only, digit}
 use Rattle.cg_reading.specs.TokenReaders.{digits_at}
 use Rattle.cg_grammar.specs.Values.{with_tail, clean, counted_of, times_of, Arrows, ups_tree, Last, In_none, In_arrows, In_name}
-use Rattle.cg_grammar.specs.Reading.{Behind, Over, Times, counted_from, count_at, plain_count_at, arrows_at, ups_at, ups_tree_at}
-use Rattle.cg_grammar.specs.Reading.{nim_at, tail_at, primary_at, plain_primary_at, behind_at, behind_number_at, times_at, counted_at}
+use Rattle.cg_grammar.specs.OperandReading.{count_at, plain_count_at, arrows_at, ups_at, ups_tree_at}
+use Rattle.cg_grammar.specs.Reading.{Behind, Over, Times, counted_from}
+use Rattle.cg_grammar.specs.OperandReading.{nim_at, tail_at}
+use Rattle.cg_grammar.specs.Reading.{primary_at, plain_primary_at, behind_at, behind_number_at, times_at, counted_at}
 use Rattle.cg_grammar.specs.Reading.{number_or_multiple_at, counted_term_at, plain_counted_term_at, whole_term_at, special_term_at}
-use Rattle.cg_grammar.specs.Reading.{use_at, whole_use_at, name_at, special_at, bare_special_at, whole_special_at, arrow, star}
+use Rattle.cg_grammar.specs.OperandReading.{use_at, whole_use_at, name_at, arrow, star}
+use Rattle.cg_grammar.specs.Reading.{special_at, bare_special_at, whole_special_at}
 use Rattle.cg_grammar.specs.Grammar.{letter}
 use Rattle.cg_query.specs.declared.format.Format.{Format}
 use Rattle.cg_query.specs.declared.format.Format.TheVariants as formats

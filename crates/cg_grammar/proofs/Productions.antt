@@ -20,6 +20,7 @@ use Rattle.cg_grammar.specs.Found.{Found}
 use Rattle.cg_grammar.specs.Values.{Last, In_none, In_name, goes_on, letter_or_digit, more_letters, clean, asked_of, asked_of_both, checked, asking, defined}
 use Rattle.cg_grammar.specs.Grammar as s
 use Rattle.cg_grammar.specs.Grammar.{bar, letter, is_free}
+use Rattle.cg_grammar.specs.OperandReading.{lettered_at, name_at, whole_use_at}
 use Rattle.cg_grammar.specs.Reading as r
 use Rattle.cg_grammar.specs.Reading.{special_begin, term_begin, plus_minus}
 use Rattle.cg_query.specs.declared.format.Format.{Format}
@@ -42,16 +43,16 @@ plain_special_text j = left_text j (switch_text j)
 
 -- ---- names
 
-lettered_token : Token s.lettered r.lettered_at letter false [] more_letters
-unfolding r.lettered_at
+lettered_token : Token s.lettered lettered_at letter false [] more_letters
+unfolding lettered_at
 lettered_token = made_full (λ v. v.0 ∷ v.1) more_letters (then_full (one_lawful letter 97 refl) (most_token letter_or_digit 15) (λ j. no_few letter_or_digit 15 j) refl)
 
-name_token : Token s.name r.name_at letter false [] more_letters
-unfolding r.name_at
+name_token : Token s.name name_at letter false [] more_letters
+unfolding name_at
 name_token = such_token is_free other_name lettered_token
 
-use_token : Token s.use_piece r.whole_use_at letter false [] (λ v. goes_on v.1)
-unfolding r.whole_use_at
+use_token : Token s.use_piece whole_use_at letter false [] (λ v. goes_on v.1)
+unfolding whole_use_at
 use_token = made_full (λ v. (clean (used v.1 v.0), In_name v.1)) (λ v. goes_on v.1) (placed_token name_token)
 
 -- ---- specials with any number of brackets
@@ -60,7 +61,7 @@ use_token = made_full (λ v. (clean (used v.1 v.0), In_name v.1)) (λ v. goes_on
 abbrev bare_begin : Class
 bare_begin = (43, 43) ∷ (65, 65) ∷ (67, 68) ∷ (72, 72) ∷ (77, 77) ∷ (79, 79) ∷ (83, 84) ∷ (123, 123) ∷ (40, 40) ∷ []
 
-with_names_token : (format : Format) (R : Piece (Found × Last)) (h : Reader (Found × Last)) → Token R h bare_begin false number_follow (λ v. goes_on v.1) → Token (g.with_names format R) (r.with_names_at format r.whole_use_at h) special_begin false number_follow (λ v. goes_on v.1)
+with_names_token : (format : Format) (R : Piece (Found × Last)) (h : Reader (Found × Last)) → Token R h bare_begin false number_follow (λ v. goes_on v.1) → Token (g.with_names format R) (r.with_names_at format whole_use_at h) special_begin false number_follow (λ v. goes_on v.1)
 with_names_token formats.One R h t = wide_token special_begin number_follow t refl refl
 with_names_token formats.Two R h t = wide_token special_begin number_follow (or_full_ok use_token t refl) refl refl
 

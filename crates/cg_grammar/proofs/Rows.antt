@@ -13,7 +13,8 @@ use Rattle.cg_reading.proofs.Longest.{Full}
 use Rattle.cg_reading.proofs.Rules.{placed_ok, made_ok, then_ok}
 use Rattle.cg_grammar.specs.Found.{Found}
 use Rattle.cg_grammar.specs.Grammar.{bar, bars, Bars_side, Rows, Some_rows}
-use Rattle.cg_grammar.specs.Reading.{bars_at, row_at, some_rows_at}
+use Rattle.cg_grammar.specs.OperandReading.{bars_at}
+use Rattle.cg_grammar.specs.Reading.{row_at, some_rows_at}
 use Rattle.cg_grammar.specs.Reading as reading
 use Rattle.cg_grammar.proofs.Factored.{side}
 use Rattle.cg_reading.proofs.Spelled.{made_is}
