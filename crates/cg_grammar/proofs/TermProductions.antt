@@ -63,7 +63,9 @@ last_bound (In_arrows a) = arrows_bound a
 last_bound (In_name word) = letters_bound word
 
 -- a special with what it ends in, and a reader of it; and a reader of it alone
-module _ (S : Piece (Found × Last)) (f : Reader (Found × Last)) (p : Reader Found) (bare : (end : ℕ) (bytes : List ℕ) → (f end bytes >>= λ v. Ok (v.0.0, v.1)) ≡ p end bytes) (ls : Token S f special_begin false number_follow (λ v. goes_on v.1)) (w : (j : ℕ) → Some_text S j) where
+module _ {S : Piece (Found × Last)} {f : Reader (Found × Last)} {p : Reader Found}
+    (bare : (end : ℕ) (bytes : List ℕ) → (f end bytes >>= λ v. Ok (v.0.0, v.1)) ≡ p end bytes)
+    (ls : Token S f special_begin false number_follow (λ v. goes_on v.1)) (w : (j : ℕ) → Some_text S j) where
   primary_token : Token (s.primary S) (r.primary_at f) uncounted_begin false number_follow (λ v. goes_on v.1)
   unfolding r.primary_at
   primary_token = wide_token uncounted_begin number_follow
@@ -171,7 +173,7 @@ side_begin = (32, 32) ∷ (9, 9) ∷ (13, 13) ∷ (97, 122) ∷ (48, 57) ∷ (94
 abbrev side_follow : Class
 side_follow = (32, 32) ∷ (9, 9) ∷ (13, 13) ∷ (42, 57) ∷ (65, 65) ∷ (67, 68) ∷ (72, 72) ∷ (77, 77) ∷ (79, 79) ∷ (83, 84) ∷ (94, 94) ∷ (97, 122) ∷ (123, 123) ∷ (40, 40) ∷ []
 
-module _ (E : Piece Found) (e : Reader Found) (le : Lawful E e term_begin false sum_follow) (w : (j : ℕ) → Some_text E j) where
+module _ {E : Piece Found} {e : Reader Found} (le : Lawful E e term_begin false sum_follow) (w : (j : ℕ) → Some_text E j) where
   next_item_text : (j : ℕ) → Some_text (Many (Made (λ v. v.1.1) (Then (One (only 44)) (Then blanks E)))) j
   next_item_text j = record { value = []; text = []; is = refl }
 
