@@ -19,7 +19,6 @@ use Rattle.cg_query.specs.Tree.{Tree, nimber, switch, tiny, octal}
 use Rattle.cg_grammar.specs.Values.{Arrows, ups_tree, more_arrows, clean, one_text, two_texts}
 use Rattle.cg_grammar.specs.Grammar as s
 use Rattle.cg_grammar.specs.Grammar.{printable}
-use Rattle.cg_grammar.specs.Reading as r
 use Rattle.cg_grammar.specs.OperandReading.{arrow, star, over_at, number_at, count_at, arrows_at, ups_at, nim_count_at, nim_at, ups_tree_at, ups_option_at, nim_option_at, tail_at, switch_at, string_at, printable_at, two_strings_at, string_and_digits_at, enclosed_number_at, enclosed_string_at, enclosed_strings_at, enclosed_octal_at, Named, behind_named_at, Of_tiny, Of_one_text, Of_two_texts, Of_octal, named_at, named_word_at, named_words, plain_special_at}
 use Rattle.cg_grammar.specs.Reading.{plain_begin}
 use Rattle.cg_grammar.proofs.Factored as g

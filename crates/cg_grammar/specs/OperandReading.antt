@@ -12,7 +12,6 @@ use Rattle.cg_grammar.specs.Values.{Arrows, letter_or_digit, Last, In_name}
 use Rattle.cg_grammar.specs.Values.{with_tail, clean}
 use Rattle.cg_grammar.specs.Values.{one_text, two_texts}
 use Rattle.cg_grammar.specs.Grammar.{printable, bar, letter, is_free}
-use Rattle.cg_query.specs.declared.format.Format.TheVariants as formats
 use Rattle.cg_query.specs.declared.kind.GameKind.{GameKind}
 use Rattle.cg_query.specs.declared.kind.GameKind.TheVariants.{Domineering, Clobber, Amazons, Toads, Strip, Hackenbush, Col, Snort}
 
