@@ -10,7 +10,8 @@ use Rattle.cg_grammar.specs.Values.{Arrows, Last, counted_of, with_tail, clean, 
 use Rattle.cg_grammar.specs.Values.{two_texts, asked_of, asked_of_both, checked, asking, defined}
 use Rattle.cg_grammar.specs.Grammar.{number, string, nim, enclosed, switch_piece, string_and, tail, ups_and_nim, primary, special_tail}
 use Rattle.cg_grammar.specs.Grammar as g
-use Rattle.cg_grammar.specs.Reading.{Named, Of_tiny, Of_one_text, Of_two_texts, Of_octal, named_words, Behind, Over, Times}
+use Rattle.cg_grammar.specs.OperandReading.{Named, Of_tiny, Of_one_text, Of_two_texts, Of_octal, named_words}
+use Rattle.cg_grammar.specs.Reading.{Behind, Over, Times}
 use Rattle.cg_grammar.specs.Reading.{counted_from, behind_goes_on, Kind, Of_one, Of_two, Of_check, Of_name, question_kinds, kind_of}
 use Rattle.cg_query.specs.declared.format.Format.{Format}
 use Rattle.cg_query.specs.declared.format.Format.TheVariants as formats

@@ -5,7 +5,7 @@ use Rattle.std.specs.Prelude.{ltb, ◌==◌}
 use Rattle.std.proofs.lemmas.Bool.{ne_eqb, eq-eqb, ltb-true, ltb-false, lt-ltb, le-ltb}
 use Rattle.cg_query.specs.Tree.{Tree, braces}
 use Rattle.cg_grammar.specs.Found.{Found}
-use Rattle.cg_grammar.specs.Braces.{Run_side, Cut, Whole, Parts, repeats, cut_from, split_by, part_of, only_tree, row_tree}
+use Rattle.cg_grammar.specs.Braces.{Run_side, Whole, Parts, repeats, cut_from, part_of, only_tree, row_tree}
 use Rattle.cg_grammar.specs.Splitting.{AllShorter, AllWithin, IsSplit, alone, split}
 use Rattle.cg_grammar.proofs.Parts.{part_here, part_none}
 
@@ -50,15 +50,15 @@ seen_stays : (n : ℕ) (ms : List ℕ) → AllBelow n ms → repeats n true ms �
 seen_stays n [] h = refl
 seen_stays n (m ∷ ms) h =
     let small : m ≤ n = omega (arith, h.0) in
-    ap (λ (b : Bool). repeats n (cond b false ((n == m) || true)) ms) (le-ltb n m small) ∙ ap (λ (b : Bool). repeats n b ms) (or_true (n == m)) ∙ seen_stays n ms h.1
+    rw (le-ltb n m small, or_true (n == m)) (seen_stays n ms h.1)
 
 pub at_equal : (n : ℕ) (seen : Bool) → repeats n seen (n ∷ []) ≡ true
 at_equal n seen =
     let same : n ≤ n = omega arith in
-    ap (λ (b : Bool). cond b false ((n == n) || seen)) (le-ltb n n same) ∙ ap (λ (b : Bool). b || seen) (eq-eqb n n refl)
+    rw (le-ltb n n same, eq-eqb n n refl) refl
 
 at_longer : (m n : ℕ) (seen : Bool) → m < n → repeats m seen (n ∷ []) ≡ false
-at_longer m n seen h = ap (λ (b : Bool). cond b false ((m == n) || seen)) (lt-ltb m n h)
+at_longer m n seen h = rw (lt-ltb m n h) refl
 
 -- ---- rows before and behind one of them
 
@@ -70,10 +70,12 @@ fresh_front : (earlier : List ℕ) (before : List Run_side) (r : Run_side) (behi
 fresh_front earlier [] r behind f = tt
 fresh_front earlier (s ∷ before) r behind f = (f.0, fresh_front (earlier ++ s.bars ∷ []) before r behind f.1)
 
-fresh_back : (earlier : List ℕ) (before : List Run_side) (r : Run_side) (behind : List Run_side) → Fresh earlier (before ++ r ∷ behind) → Fresh ((earlier ++ bars_of before) ++ r.bars ∷ []) behind
+fresh_back : (earlier : List ℕ) (before : List Run_side) (r : Run_side) (behind : List Run_side) → Fresh earlier (before ++ r ∷ behind)
+    → Fresh ((earlier ++ bars_of before) ++ r.bars ∷ []) behind
 fresh_back earlier [] r behind f = subst (λ (z : List ℕ). Fresh (z ++ r.bars ∷ []) behind) (sym (append-nil earlier)) f.1
 fresh_back earlier (s ∷ before) r behind f =
-    subst (λ (z : List ℕ). Fresh (z ++ r.bars ∷ []) behind) (append_assoc earlier (s.bars ∷ []) (bars_of before)) (fresh_back (earlier ++ s.bars ∷ []) before r behind f.1)
+    subst (λ (z : List ℕ). Fresh (z ++ r.bars ∷ []) behind) (append_assoc earlier (s.bars ∷ []) (bars_of before))
+    (fresh_back (earlier ++ s.bars ∷ []) before r behind f.1)
 
 within_front : (n : ℕ) (before : List Run_side) (r : Run_side) (behind : List Run_side) → AllWithin n (before ++ r ∷ behind) → AllWithin n before
 within_front n [] r behind w = tt
@@ -88,19 +90,25 @@ lower n [] w h = tt
 lower n (r ∷ rows) w h = (w.0, omega (arith, h.0), lower n rows w.2 h.1)
 
 -- Behind a longest run no run is as long, and none repeats one behind it.
-behind_longest : (n : ℕ) (E L : List ℕ) (behind : List Run_side) → AllBelow n L → AllWithin n behind → Fresh ((E ++ n ∷ []) ++ L) behind → AllShorter n behind × Fresh L behind
+behind_longest : (n : ℕ) (E L : List ℕ) (behind : List Run_side) → AllBelow n L → AllWithin n behind
+    → Fresh ((E ++ n ∷ []) ++ L) behind → AllShorter n behind × Fresh L behind
 behind_longest n E L [] b w f = (tt, tt)
-behind_longest n E L (s ∷ rest) b w f = by_length (le_split s.bars n w.1) (λ (h : s.bars < n). behind_longest n E (L ++ s.bars ∷ []) rest (below_push n L s.bars b h) w.2 (subst (λ (z : List ℕ). Fresh z rest) (append_assoc (E ++ n ∷ []) L (s.bars ∷ [])) f.1))
+behind_longest n E L (s ∷ rest) b w f =
+    let next : Fresh ((E ++ n ∷ []) ++ (L ++ s.bars ∷ [])) rest = rw (append_assoc (E ++ n ∷ []) L (s.bars ∷ [])) at f.1 in
+    by_length (le_split s.bars n w.1) (λ (h : s.bars < n). behind_longest n E (L ++ s.bars ∷ []) rest (below_push n L s.bars b h) w.2 next)
   where
     before_rest : (m : ℕ) → repeats m false ((E ++ n ∷ []) ++ L) ≡ repeats m (repeats m (repeats m false E) (n ∷ [])) L
     before_rest m = repeats-append m false (E ++ n ∷ []) L ∙ ap (λ (t : Bool). repeats m t L) (repeats-append m false E (n ∷ []))
 
-    by_length : (s.bars < n) ⊎ (s.bars ≡ n) → (s.bars < n → AllShorter n rest × Fresh (L ++ s.bars ∷ []) rest) → AllShorter n (s ∷ rest) × Fresh L (s ∷ rest)
+    by_length : (s.bars < n) ⊎ (s.bars ≡ n) → (s.bars < n → AllShorter n rest × Fresh (L ++ s.bars ∷ []) rest)
+        → AllShorter n (s ∷ rest) × Fresh L (s ∷ rest)
     by_length (inr e) further =
-        let seen : repeats n false ((E ++ n ∷ []) ++ L) ≡ true = before_rest n ∙ ap (λ (t : Bool). repeats n t L) (at_equal n (repeats n false E)) ∙ seen_stays n L b in
+        let seen : repeats n false ((E ++ n ∷ []) ++ L) ≡ true =
+        rw (before_rest n, at_equal n (repeats n false E)) (seen_stays n L b) in
         absurd (true_is_not (sym seen ∙ ap (λ (m : ℕ). repeats m false ((E ++ n ∷ []) ++ L)) (sym e) ∙ f.0))
     by_length (inl h) further =
-        let cleared : repeats s.bars false ((E ++ n ∷ []) ++ L) ≡ repeats s.bars false L = before_rest s.bars ∙ ap (λ (t : Bool). repeats s.bars t L) (at_longer s.bars n (repeats s.bars false E) h) in
+        let cleared : repeats s.bars false ((E ++ n ∷ []) ++ L) ≡ repeats s.bars false L =
+        rw (before_rest s.bars, at_longer s.bars n (repeats s.bars false E) h) refl in
         let more = further h in
         ((h, more.0), (sym cleared ∙ f.0, more.1))
 
@@ -116,24 +124,29 @@ record Halved (n : ℕ) (front rows : List Run_side) : Type 0 where
   shorter : AllShorter n before
   cut : cut_from front n rows ≡ Parts (front ++ before) longest.side behind
 
-cut_cases : (n : ℕ) (front rows : List Run_side) → AllWithin n rows → ((cut_from front n rows ≡ Whole (front ++ rows)) × AllShorter n rows) ⊎ Halved n front rows
+-- rows without such a run
+abbrev Uncut : ℕ → List Run_side → List Run_side → Type 0
+Uncut n front rows = (cut_from front n rows ≡ Whole (front ++ rows)) × AllShorter n rows
+
+cut_cases : (n : ℕ) (front rows : List Run_side) → AllWithin n rows → Uncut n front rows ⊎ Halved n front rows
 cut_cases n front [] w = inl (ap (λ (z : List Run_side). Whole z) (sym (append-nil front)), tt)
 cut_cases n front (r ∷ rows) w = by_length (le_split r.bars n w.1) (cut_cases n (front ++ r ∷ []) rows w.2)
   where
-    go_on : r.bars < n → ((cut_from (front ++ r ∷ []) n rows ≡ Whole ((front ++ r ∷ []) ++ rows)) × AllShorter n rows) ⊎ Halved n (front ++ r ∷ []) rows → ((cut_from front n (r ∷ rows) ≡ Whole (front ++ r ∷ rows)) × AllShorter n (r ∷ rows)) ⊎ Halved n front (r ∷ rows)
-    go_on h (inl p) = inl (ap (λ (b : Bool). cond b (Parts front r.side rows) (cut_from (front ++ r ∷ []) n rows)) (ne_eqb r.bars n (less_not r.bars n h)) ∙ p.0 ∙ ap (λ (z : List Run_side). Whole z) (append_assoc front (r ∷ []) rows), (h, p.1))
-    go_on h (inr c) = inr (record {
+    by_length : (r.bars < n) ⊎ (r.bars ≡ n) → Uncut n (front ++ r ∷ []) rows ⊎ Halved n (front ++ r ∷ []) rows
+        → Uncut n front (r ∷ rows) ⊎ Halved n front (r ∷ rows)
+    by_length (inl h) (inl p) =
+        inl (rw (ne_eqb r.bars n (less_not r.bars n h)) (p.0 ∙ ap (λ (z : List Run_side). Whole z) (append_assoc front (r ∷ []) rows)), (h, p.1))
+    by_length (inl h) (inr c) = inr (record {
       before = r ∷ c.before;
       longest = c.longest;
       behind = c.behind;
       spelled = ap (λ (z : List Run_side). r ∷ z) c.spelled;
       bars = c.bars;
       shorter = (h, c.shorter);
-      cut = ap (λ (b : Bool). cond b (Parts front r.side rows) (cut_from (front ++ r ∷ []) n rows)) (ne_eqb r.bars n (less_not r.bars n h)) ∙ c.cut ∙ ap (λ (z : List Run_side). Parts z c.longest.side c.behind) (append_assoc front (r ∷ []) c.before);
+      cut =
+          rw (ne_eqb r.bars n (less_not r.bars n h))
+          (c.cut ∙ ap (λ (z : List Run_side). Parts z c.longest.side c.behind) (append_assoc front (r ∷ []) c.before));
     })
-
-    by_length : (r.bars < n) ⊎ (r.bars ≡ n) → (((cut_from (front ++ r ∷ []) n rows ≡ Whole ((front ++ r ∷ []) ++ rows)) × AllShorter n rows) ⊎ Halved n (front ++ r ∷ []) rows) → ((cut_from front n (r ∷ rows) ≡ Whole (front ++ r ∷ rows)) × AllShorter n (r ∷ rows)) ⊎ Halved n front (r ∷ rows)
-    by_length (inl h) further = go_on h further
     by_length (inr e) further = inr (record {
       before = [];
       longest = r;
@@ -141,17 +154,18 @@ cut_cases n front (r ∷ rows) w = by_length (le_split r.bars n w.1) (cut_cases 
       spelled = refl;
       bars = e;
       shorter = tt;
-      cut = ap (λ (b : Bool). cond b (Parts front r.side rows) (cut_from (front ++ r ∷ []) n rows)) (eq-eqb r.bars n e) ∙ ap (λ (z : List Run_side). Parts z r.side rows) (sym (append-nil front));
+      cut = rw (eq-eqb r.bars n e) (ap (λ (z : List Run_side). Parts z r.side rows) (sym (append-nil front)));
     })
 
 -- ---- splitting
 
-halves_split : (n : ℕ) (side : List Found) (before : List Run_side) (longest : Run_side) (behind : List Run_side) → longest.bars ≡ suc n → AllShorter (suc n) before → AllWithin (suc n) (before ++ longest ∷ behind) → Fresh [] (before ++ longest ∷ behind)
+halves_split : (n : ℕ) (side : List Found) (before : List Run_side) (longest : Run_side) (behind : List Run_side) → longest.bars ≡ suc n
+    → AllShorter (suc n) before → AllWithin (suc n) (before ++ longest ∷ behind) → Fresh [] (before ++ longest ∷ behind)
     → ((s : List Found) (rows : List Run_side) → AllWithin n rows → Fresh [] rows → IsSplit s rows (part_of n s rows))
     → IsSplit side (before ++ longest ∷ behind) (braces (part_of n side before) (part_of n longest.side behind) ∷ [])
 halves_split n side before longest behind e short w f ih =
-    let back : Fresh ((bars_of before ++ longest.bars ∷ []) ++ []) behind = subst (λ (z : List ℕ). Fresh z behind) (sym (append-nil (bars_of before ++ longest.bars ∷ []))) (fresh_back [] before longest behind f) in
-    let here : Fresh ((bars_of before ++ suc n ∷ []) ++ []) behind = subst (λ (m : ℕ). Fresh ((bars_of before ++ m ∷ []) ++ []) behind) e back in
+    let here : Fresh ((bars_of before ++ suc n ∷ []) ++ []) behind =
+    rw (append-nil (bars_of before ++ suc n ∷ [])) (rw e at (fresh_back [] before longest behind f)) in
     let b = behind_longest (suc n) (bars_of before) [] behind tt (within_back (suc n) before longest behind w) here in
     split side before longest behind (part_of n side before) (part_of n longest.side behind)
     (subst (λ (m : ℕ). AllShorter m before) (sym e) short) (subst (λ (m : ℕ). AllShorter m behind) (sym e) b.0)
@@ -163,12 +177,13 @@ part_splits zero side [] w f = subst (λ (ts : List Tree). IsSplit side [] ts) (
 part_splits zero side (r ∷ rows) w f = absurd (omega (arith, w.0, w.1))
 part_splits (suc n) side rows w f = by_cut (cut_cases (suc n) [] rows w) (part_splits n)
   where
-    by_cut : ((cut_from [] (suc n) rows ≡ Whole ([] ++ rows)) × AllShorter (suc n) rows) ⊎ Halved (suc n) [] rows → ((s : List Found) (rs : List Run_side) → AllWithin n rs → Fresh [] rs → IsSplit s rs (part_of n s rs)) → IsSplit side rows (part_of (suc n) side rows)
-    by_cut (inl p) shorter = subst (λ (ts : List Tree). IsSplit side rows ts) (sym (part_here n side rows ∙ ap (λ (c : Cut). split_by (part_of n) side c) p.0)) (shorter side rows (lower n rows w p.1) f)
+    by_cut : Uncut (suc n) [] rows ⊎ Halved (suc n) [] rows
+        → ((s : List Found) (rs : List Run_side) → AllWithin n rs → Fresh [] rs → IsSplit s rs (part_of n s rs))
+        → IsSplit side rows (part_of (suc n) side rows)
+    by_cut (inl p) shorter = rw (part_here n side rows, p.0) (shorter side rows (lower n rows w p.1) f)
     by_cut (inr c) shorter =
-        let all = halves_split n side c.before c.longest c.behind c.bars c.shorter (subst (λ (z : List Run_side). AllWithin (suc n) z) c.spelled w) (subst (λ (z : List Run_side). Fresh [] z) c.spelled f) shorter in
-        let parts : part_of (suc n) side rows ≡ braces (part_of n side c.before) (part_of n c.longest.side c.behind) ∷ [] = part_here n side rows ∙ ap (λ (d : Cut). split_by (part_of n) side d) c.cut in
-        subst (λ (ts : List Tree). IsSplit side rows ts) (sym parts) (subst (λ (z : List Run_side). IsSplit side z (braces (part_of n side c.before) (part_of n c.longest.side c.behind) ∷ [])) (sym c.spelled) all)
+        rw (part_here n side rows, c.cut, c.spelled)
+        (halves_split n side c.before c.longest c.behind c.bars c.shorter (rw c.spelled at w) (rw c.spelled at f) shorter)
 
 one_option : (side : List Found) (rows : List Run_side) (ts : List Tree) → IsSplit side rows ts → 0 < length rows → ts ≡ only_tree ts ∷ []
 one_option _ _ _ (alone side) some = absurd (omega arith)

@@ -20,6 +20,7 @@ use Rattle.cg_grammar.specs.Found.{Found}
 use Rattle.cg_grammar.specs.Values.{Last, In_none, In_name, goes_on, letter_or_digit, more_letters, clean, asked_of, asked_of_both, checked, asking, defined}
 use Rattle.cg_grammar.specs.Grammar as s
 use Rattle.cg_grammar.specs.Grammar.{bar, letter, is_free}
+use Rattle.cg_grammar.specs.OperandReading.{lettered_at, name_at, whole_use_at}
 use Rattle.cg_grammar.specs.Reading as r
 use Rattle.cg_grammar.specs.Reading.{special_begin, term_begin, plus_minus}
 use Rattle.cg_query.specs.declared.format.Format.{Format}
@@ -42,16 +43,16 @@ plain_special_text j = left_text j (switch_text j)
 
 -- ---- names
 
-lettered_token : Token s.lettered r.lettered_at letter false [] more_letters
-unfolding r.lettered_at
+lettered_token : Token s.lettered lettered_at letter false [] more_letters
+unfolding lettered_at
 lettered_token = made_full (λ v. v.0 ∷ v.1) more_letters (then_full (one_lawful letter 97 refl) (most_token letter_or_digit 15) (λ j. no_few letter_or_digit 15 j) refl)
 
-name_token : Token s.name r.name_at letter false [] more_letters
-unfolding r.name_at
+name_token : Token s.name name_at letter false [] more_letters
+unfolding name_at
 name_token = such_token is_free other_name lettered_token
 
-use_token : Token s.use_piece r.whole_use_at letter false [] (λ v. goes_on v.1)
-unfolding r.whole_use_at
+use_token : Token s.use_piece whole_use_at letter false [] (λ v. goes_on v.1)
+unfolding whole_use_at
 use_token = made_full (λ v. (clean (used v.1 v.0), In_name v.1)) (λ v. goes_on v.1) (placed_token name_token)
 
 -- ---- specials with any number of brackets
@@ -60,7 +61,7 @@ use_token = made_full (λ v. (clean (used v.1 v.0), In_name v.1)) (λ v. goes_on
 abbrev bare_begin : Class
 bare_begin = (43, 43) ∷ (65, 65) ∷ (67, 68) ∷ (72, 72) ∷ (77, 77) ∷ (79, 79) ∷ (83, 84) ∷ (123, 123) ∷ (40, 40) ∷ []
 
-with_names_token : (format : Format) (R : Piece (Found × Last)) (h : Reader (Found × Last)) → Token R h bare_begin false number_follow (λ v. goes_on v.1) → Token (g.with_names format R) (r.with_names_at format r.whole_use_at h) special_begin false number_follow (λ v. goes_on v.1)
+with_names_token : (format : Format) (R : Piece (Found × Last)) (h : Reader (Found × Last)) → Token R h bare_begin false number_follow (λ v. goes_on v.1) → Token (g.with_names format R) (r.with_names_at format whole_use_at h) special_begin false number_follow (λ v. goes_on v.1)
 with_names_token formats.One R h t = wide_token special_begin number_follow t refl refl
 with_names_token formats.Two R h t = wide_token special_begin number_follow (or_full_ok use_token t refl) refl refl
 
@@ -84,49 +85,50 @@ bare_ok : (format : Format) (k : ℕ) → Lawful (g.bare format k) (r.bare_speci
 unfolding g.bare r.bare_special_at r.special_at r.bracket_at
 bare_ok format zero = wide_ok bare_begin number_follow plain_special_ok refl refl
 bare_ok format (suc k) =
-    let inner = sum_ok (g.special format k) (r.whole_special_at format k) (r.special_at format k) (whole_special_is format k) (special_from format k (bare_ok format k)) (special_text format k) in
-    let words = sum_text (g.special format k) (r.whole_special_at format k) (r.special_at format k) (whole_special_is format k) (special_from format k (bare_ok format k)) (special_text format k) in
-    wide_ok bare_begin number_follow (or_ok plain_special_ok (or_ok (braces_ok (g.sum (g.special format k)) (r.sum_at (r.special_at format k)) inner words) (paren_ok (g.sum (g.special format k)) (r.sum_at (r.special_at format k)) inner words) refl) refl) refl refl
+    let inner = sum_ok (whole_special_is format k) (special_from format k (bare_ok format k)) (special_text format k) in
+    let words = sum_text (whole_special_is format k) (special_from format k (bare_ok format k)) (special_text format k) in
+    wide_ok bare_begin number_follow (or_ok plain_special_ok (or_ok (braces_ok inner words) (paren_ok inner words) refl) refl) refl refl
 
 pub special_ok : (format : Format) (k : ℕ) → Token (g.special format k) (r.whole_special_at format k) special_begin false number_follow (λ v. goes_on v.1)
 special_ok format k = special_from format k (bare_ok format k)
 
 module _ (format : Format) (k : ℕ) where
   pub next_terms_ok : Lawful (g.next_term (g.special format k)) (r.next_term_at (r.special_at format k)) plus_minus false spaced_follow
-  next_terms_ok = next_term_ok (g.special format k) (r.whole_special_at format k) (r.special_at format k) (whole_special_is format k) (special_ok format k) (special_text format k)
+  next_terms_ok = next_term_ok (whole_special_is format k) (special_ok format k) (special_text format k)
 
   pub expr_ok : Lawful (g.expr format k) (r.sum_at (r.special_at format k)) term_begin false sum_follow
-  expr_ok = sum_ok (g.special format k) (r.whole_special_at format k) (r.special_at format k) (whole_special_is format k) (special_ok format k) (special_text format k)
+  expr_ok = sum_ok (whole_special_is format k) (special_ok format k) (special_text format k)
 
   expr_text : (j : ℕ) → Some_text (g.expr format k) j
-  expr_text = sum_text (g.special format k) (r.whole_special_at format k) (r.special_at format k) (whole_special_is format k) (special_ok format k) (special_text format k)
+  expr_text = sum_text (whole_special_is format k) (special_ok format k) (special_text format k)
 
   pub items_reads : Reads (Made (λ v. v.1.1) (Then (One (only 44)) (Then blanks (g.expr format k)))) (r.next_item_at (r.sum_at (r.special_at format k))) (only 44) false
-  items_reads = (next_item_ok (g.expr format k) (r.sum_at (r.special_at format k)) expr_ok expr_text).reads
+  items_reads = (next_item_ok expr_ok expr_text).reads
 
   pub rows_reads : Reads (Then s.bars (g.side (g.expr format k))) (r.row_at (r.sum_at (r.special_at format k))) bar false
-  rows_reads = row_reads_ok (g.expr format k) (r.sum_at (r.special_at format k)) expr_ok expr_text
+  rows_reads = row_reads_ok expr_ok expr_text
 
 -- ---- lines
 
 -- two pieces with a semicolon between them
-module _ {A B : Type 0} (R : Piece A) (S : Piece B) (f : Reader A) (h : Reader B) (I F J G : Class) (v : (j : ℕ) → Some_text R j) (w : (j : ℕ) → Some_text S j) where
+module _ {A B : Type 0} {R : Piece A} {S : Piece B} (v : (j : ℕ) → Some_text R j) (w : (j : ℕ) → Some_text S j) where
   behind_first : (j : ℕ) → Some_text (Then (One (only 59)) (Then blanks S)) j
   behind_first j = then_text {S = Then blanks S} j (byte_text 59 refl j) (λ k. then_text {S = S} k (no_text blank k) w)
 
   semicolon_text : (j : ℕ) → Some_text (g.with_semicolon R S) j
   semicolon_text j = made_text (λ v. (v.0, v.1.1.1)) j (then_text {S = Then (One (only 59)) (Then blanks S)} j (v j) behind_first)
 
-  semicolon_ok : Lawful R f I false F → Lawful S h J false G → apart (only 59) F ≡ true → apart J blank ≡ true → apart (blank ++ J) [] ≡ true → Lawful (g.with_semicolon R S) (r.with_semicolon_at f h) I false G
+  semicolon_ok : {f : Reader A} {h : Reader B} {I F J G : Class} → Lawful R f I false F → Lawful S h J false G → apart (only 59) F ≡ true → apart J blank ≡ true → apart (blank ++ J) [] ≡ true
+      → Lawful (g.with_semicolon R S) (r.with_semicolon_at f h) I false G
   semicolon_ok lf lh a b c = made_ok (λ v. (v.0, v.1.1.1))
       (then_ok lf (then_ok (byte_ok 59 refl) (then_ok (bytes_lawful blank) lh w b) (λ j. then_text {S = S} j (no_text blank j) w) c) behind_first a)
 
 both_ok : (format : Format) → Lawful (g.both format) (r.both_at format) term_begin false sum_follow
 unfolding r.both_at
-both_ok format = semicolon_ok (g.expr format 64) (g.expr format 64) (r.sum_at (r.special_at format 64)) (r.sum_at (r.special_at format 64)) term_begin sum_follow term_begin sum_follow (expr_text format 64) (expr_text format 64) (expr_ok format 64) (expr_ok format 64) refl refl refl
+both_ok format = semicolon_ok (expr_text format 64) (expr_text format 64) (expr_ok format 64) (expr_ok format 64) refl refl refl
 
 both_text : (format : Format) (j : ℕ) → Some_text (g.both format) j
-both_text format = semicolon_text (g.expr format 64) (g.expr format 64) (r.sum_at (r.special_at format 64)) (r.sum_at (r.special_at format 64)) term_begin sum_follow term_begin sum_follow (expr_text format 64) (expr_text format 64)
+both_text format = semicolon_text (expr_text format 64) (expr_text format 64)
 
 behind_gap : {A : Type 0} (R : Piece A) → ((j : ℕ) → Some_text R j) → (j : ℕ) → Some_text (Then gap R) j
 behind_gap R w j = then_text {S = R} j (gap_text j) w
@@ -138,10 +140,10 @@ last_text : (j : ℕ) → Some_text (with_blanks s.string) j
 last_text j = made_text (λ v. v.0) j (then_text {S = blanks} j (string_text j) (no_text blank))
 
 checked_ok : (format : Format) → Lawful (g.with_semicolon (g.both format) (with_blanks s.string)) (r.with_semicolon_at (r.both_at format) r.last_string_at) term_begin false blank
-checked_ok format = semicolon_ok (g.both format) (with_blanks s.string) (r.both_at format) r.last_string_at term_begin sum_follow (only 34) blank (both_text format) last_text (both_ok format) last_ok refl refl refl
+checked_ok format = semicolon_ok (both_text format) last_text (both_ok format) last_ok refl refl refl
 
 checked_text : (format : Format) (j : ℕ) → Some_text (g.with_semicolon (g.both format) (with_blanks s.string)) j
-checked_text format = semicolon_text (g.both format) (with_blanks s.string) (r.both_at format) r.last_string_at term_begin sum_follow (only 34) blank (both_text format) last_text
+checked_text format = semicolon_text (both_text format) last_text
 
 -- what may follow the first word
 abbrev behind_begin : Class

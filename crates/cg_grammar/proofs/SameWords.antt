@@ -5,7 +5,7 @@ use Rattle.cg_reading.specs.Pieces.{Piece, Or, Word}
 use Rattle.cg_reading.specs.Words.{Among}
 use Rattle.cg_reading.proofs.Same.{Same, same_self, or_same}
 use Rattle.cg_grammar.specs.Found.{Found}
-use Rattle.cg_grammar.specs.Reading.{Named, Of_tiny, Of_one_text, Of_two_texts, Of_octal, named_words}
+use Rattle.cg_grammar.specs.OperandReading.{Named, Of_tiny, Of_one_text, Of_two_texts, Of_octal, named_words}
 use Rattle.cg_grammar.specs.Grammar as s
 use Rattle.cg_query.specs.declared.kind.GameKind.{GameKind}
 use Rattle.cg_query.specs.declared.kind.GameKind.TheVariants.{Domineering, Clobber, Amazons, Toads, Strip, Hackenbush, Col, Snort}

@@ -18,7 +18,8 @@ use Rattle.cg_grammar.specs.Values.{more_letters, counted_of, with_tail, clean, 
 use Rattle.cg_grammar.specs.Grammar as s
 use Rattle.cg_grammar.specs.Grammar.{bar}
 use Rattle.cg_grammar.specs.Reading as r
-use Rattle.cg_grammar.specs.Reading.{arrow, special_begin, uncounted_begin, unsigned_begin, term_begin}
+use Rattle.cg_grammar.specs.OperandReading.{arrow, ups_term_at, sign_at}
+use Rattle.cg_grammar.specs.Reading.{special_begin, uncounted_begin, unsigned_begin, term_begin}
 use Rattle.cg_grammar.specs.Reading.{plus_minus, Behind, Over, Times, counted_from, behind_goes_on}
 use Rattle.cg_grammar.proofs.Factored as g
 use Rattle.cg_grammar.proofs.Rows.{some_rows_ok, some_rows_text, row_reads}
@@ -62,7 +63,9 @@ last_bound (In_arrows a) = arrows_bound a
 last_bound (In_name word) = letters_bound word
 
 -- a special with what it ends in, and a reader of it; and a reader of it alone
-module _ (S : Piece (Found × Last)) (f : Reader (Found × Last)) (p : Reader Found) (bare : (end : ℕ) (bytes : List ℕ) → (f end bytes >>= λ v. Ok (v.0.0, v.1)) ≡ p end bytes) (ls : Token S f special_begin false number_follow (λ v. goes_on v.1)) (w : (j : ℕ) → Some_text S j) where
+module _ {S : Piece (Found × Last)} {f : Reader (Found × Last)} {p : Reader Found}
+    (bare : (end : ℕ) (bytes : List ℕ) → (f end bytes >>= λ v. Ok (v.0.0, v.1)) ≡ p end bytes)
+    (ls : Token S f special_begin false number_follow (λ v. goes_on v.1)) (w : (j : ℕ) → Some_text S j) where
   primary_token : Token (s.primary S) (r.primary_at f) uncounted_begin false number_follow (λ v. goes_on v.1)
   unfolding r.primary_at
   primary_token = wide_token uncounted_begin number_follow
@@ -99,8 +102,8 @@ module _ (S : Piece (Found × Last)) (f : Reader (Found × Last)) (p : Reader Fo
   plain_counted_ok : (negative : Bool) → Lawful (g.counted_term S negative) (r.plain_counted_term_at p negative) digit false term_follow
   plain_counted_ok negative = same_ok (r.plain_counted_term_at p negative) (counted_term_is p f bare negative) (counted_term_ok negative)
 
-  ups_term_ok : Lawful (Made (λ v. with_tail (clean v.0) (None, v.1)) (Then (Made ups_tree s.ups) (s.optional s.nim))) r.ups_term_at arrow false tail_follow
-  unfolding r.ups_term_at
+  ups_term_ok : Lawful (Made (λ v. with_tail (clean v.0) (None, v.1)) (Then (Made ups_tree s.ups) (s.optional s.nim))) ups_term_at arrow false tail_follow
+  unfolding ups_term_at
   ups_term_ok = wide_ok arrow tail_follow (made_ok (λ v. with_tail (clean v.0) (None, v.1)) (then_ok ups_tree_ok optional_nim no_nim refl)) refl refl
 
   whole_term_ok : Lawful (s.special_tail S) (r.whole_term_at f) special_begin false term_follow
@@ -140,8 +143,8 @@ module _ (S : Piece (Found × Last)) (f : Reader (Found × Last)) (p : Reader Fo
   term_text : (j : ℕ) → Some_text (g.term S) j
   term_text j = right_text j (unsigned_text j)
 
-  sign_ok : Lawful g.sign r.sign_at plus_minus false []
-  unfolding r.sign_at
+  sign_ok : Lawful g.sign sign_at plus_minus false []
+  unfolding sign_at
   sign_ok = or_ok (made_ok (λ _. true) (one_lawful (only 45) 45 refl)) (made_ok (λ _. false) (one_lawful (only 43) 43 refl)) refl
 
   pub next_term_ok : Lawful (g.next_term S) (r.next_term_at p) plus_minus false spaced_follow
@@ -170,7 +173,7 @@ side_begin = (32, 32) ∷ (9, 9) ∷ (13, 13) ∷ (97, 122) ∷ (48, 57) ∷ (94
 abbrev side_follow : Class
 side_follow = (32, 32) ∷ (9, 9) ∷ (13, 13) ∷ (42, 57) ∷ (65, 65) ∷ (67, 68) ∷ (72, 72) ∷ (77, 77) ∷ (79, 79) ∷ (83, 84) ∷ (94, 94) ∷ (97, 122) ∷ (123, 123) ∷ (40, 40) ∷ []
 
-module _ (E : Piece Found) (e : Reader Found) (le : Lawful E e term_begin false sum_follow) (w : (j : ℕ) → Some_text E j) where
+module _ {E : Piece Found} {e : Reader Found} (le : Lawful E e term_begin false sum_follow) (w : (j : ℕ) → Some_text E j) where
   next_item_text : (j : ℕ) → Some_text (Many (Made (λ v. v.1.1) (Then (One (only 44)) (Then blanks E)))) j
   next_item_text j = record { value = []; text = []; is = refl }
 

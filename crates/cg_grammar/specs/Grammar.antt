@@ -44,6 +44,7 @@ use Rattle.cg_reading.specs.Bytes.{Class, Ends}
 use Rattle.cg_reading.specs.Pieces.{Piece, Then, Or, Many, Made, Nothing, One, Bytes, Few, Run, Word, Placed, Longest, Such}
 use Rattle.cg_reading.specs.Tokens.{only, blanks, gap, behind_blanks, with_blanks, digits}
 use Rattle.cg_query.specs.Tree.{Tree, Question, nimber, switch, tiny, octal, used, value, compare, outcome, stops, mean, temp, thermo, proof}
+pub use Rattle.cg_grammar.specs.Marks.{quote, opening_paren, closing_paren, asterisk, plus, comma, minus, point, slash, semicolon, opening_brace, bar, closing_brace, caret, letter_v}
 use Rattle.cg_grammar.specs.Found.{Found, Asked, Stated}
 use Rattle.cg_grammar.specs.Values.{Arrows, ups_tree, letter_or_digit, Last, In_none, In_arrows, In_name, goes_on, Counted, whole}
 use Rattle.cg_grammar.specs.Values.{times, counted_goes_on, counted_of, with_tail, clean, negated, sum_of, run_side, braces_of}
@@ -52,53 +53,6 @@ use Rattle.cg_query.specs.declared.format.Format.{Format}
 use Rattle.cg_query.specs.declared.format.Format.TheVariants as formats
 use Rattle.cg_query.specs.declared.kind.GameKind.{GameKind}
 use Rattle.cg_query.specs.declared.kind.GameKind.TheVariants.{Domineering, Clobber, Amazons, Toads, Strip, Hackenbush, Col, Snort}
-
--- ---- bytes by name
-
-abbrev pub quote : Class
-quote = only 34
-
-abbrev pub opening_paren : Class
-opening_paren = only 40
-
-abbrev pub closing_paren : Class
-closing_paren = only 41
-
-abbrev pub asterisk : Class
-asterisk = only 42
-
-abbrev pub plus : Class
-plus = only 43
-
-abbrev pub comma : Class
-comma = only 44
-
-abbrev pub minus : Class
-minus = only 45
-
-abbrev pub point : Class
-point = only 46
-
-abbrev pub slash : Class
-slash = only 47
-
-abbrev pub semicolon : Class
-semicolon = only 59
-
-abbrev pub opening_brace : Class
-opening_brace = only 123
-
-abbrev pub bar : Class
-bar = only 124
-
-abbrev pub closing_brace : Class
-closing_brace = only 125
-
-abbrev pub caret : ℕ
-caret = 94
-
-abbrev pub letter_v : ℕ
-letter_v = 118
 
 -- ---- tokens
 

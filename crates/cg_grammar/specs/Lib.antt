@@ -1,7 +1,9 @@
 pub mod Found
 pub mod Braces
 pub mod Values
+pub mod Marks
 pub mod Grammar
+pub mod OperandReading
 pub mod Reading
 pub mod Lines
 pub mod Splitting

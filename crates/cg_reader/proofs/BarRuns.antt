@@ -3,7 +3,7 @@ use Rattle.std.proofs.Common.{◌≡◌, ℕ, zero, suc, ◌-◌, ◌<◌, ◌�
 use Rattle.cg_reading.specs.Bytes.{Class, has}
 use Rattle.cg_reading.specs.Readers.{Read, ◌>>=◌, taken, skipped, few_at}
 use Rattle.cg_grammar.specs.Grammar.{bar}
-use Rattle.cg_grammar.specs.Reading.{bars_at}
+use Rattle.cg_grammar.specs.OperandReading.{bars_at}
 use Rattle.cg_reading.proofs.Skip.{taken_length}
 
 abbrev pushed : ℕ → Read (List ℕ) → Read (List ℕ)

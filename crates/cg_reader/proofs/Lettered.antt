@@ -4,7 +4,7 @@ use Rattle.cg_reading.specs.Bytes.{has}
 use Rattle.cg_reading.specs.Readers.{most_skipped}
 use Rattle.cg_reading.proofs.MostBytes.{most_is, one_and_most}
 use Rattle.cg_grammar.specs.Grammar.{letter}
-use Rattle.cg_grammar.specs.Reading.{lettered_at}
+use Rattle.cg_grammar.specs.OperandReading.{lettered_at}
 use Rattle.cg_grammar.specs.Values.{letter_or_digit}
 
 abbrev left : List ℕ → List ℕ

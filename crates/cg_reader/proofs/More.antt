@@ -11,7 +11,8 @@ use Rattle.cg_query.specs.declared.format.Format.{Format}
 use Rattle.cg_grammar.proofs.Factored as g
 use Rattle.cg_grammar.specs.Grammar.{bar}
 use Rattle.cg_grammar.specs.Reading.{plus_minus, item_list_at, next_item_at, next_term_at, row_at, row_list_at}
-use Rattle.cg_grammar.specs.Reading.{sign_at, special_at, sum_at, term_at, more_terms_at, with_terms}
+use Rattle.cg_grammar.specs.OperandReading.{sign_at}
+use Rattle.cg_grammar.specs.Reading.{special_at, sum_at, term_at, more_terms_at, with_terms}
 use Rattle.cg_reading.proofs.Many.{push_piece, many_next, many_end}
 use Rattle.cg_grammar.proofs.Productions.{next_terms_ok}
 

@@ -1,6 +1,6 @@
 -- What the words of operands tell.
 use Rattle.std.specs.Prelude.{true, false}
-use Rattle.cg_grammar.specs.Reading.{Named, Of_tiny, Of_one_text, Of_two_texts, Of_octal}
+use Rattle.cg_grammar.specs.OperandReading.{Named, Of_tiny, Of_one_text, Of_two_texts, Of_octal}
 use Rattle.cg_reader.specs.declared.boards.Named as code_named
 use Rattle.cg_reader.specs.declared.boards.Named.TheVariants as words
 

@@ -2,8 +2,8 @@
 ghost use Rattle.std.specs.Prelude.{◌≡◌, ◌<◌, ◌≤◌, length, IfOk, ℕ};
 ghost use Rattle.cg_reading.specs.Bytes.{has};
 ghost use Rattle.cg_reading.specs.Gives.{Gives};
-ghost use Rattle.cg_grammar.specs.Reading.{plain_count_at, ups_tree_at, nim_count_at, nim_at, ups_option_at};
-ghost use Rattle.cg_grammar.specs.Reading.{nim_option_at, tail_at, arrow};
+ghost use Rattle.cg_grammar.specs.OperandReading.{plain_count_at, ups_tree_at, nim_count_at, nim_at, ups_option_at};
+ghost use Rattle.cg_grammar.specs.OperandReading.{nim_option_at, tail_at, arrow};
 ghost use Rattle.cg_query.specs.Tree.{nimber};
 ghost use Rattle.cg_query.specs.Trees.{tree_of};
 ghost use Rattle.cg_reader.specs.Views.{arrows_option, arrows_tree, nimber_option};
@@ -40,7 +40,7 @@ pub fn nimber_expr(count: u128) -> Expr
 }
 
 /// A count, or more arrows of a run.
-#[tactic(auto, using(cg_reading::proofs::Skip::taken_length), unfolding(cg_grammar::specs::Reading::plain_count_at))]
+#[tactic(auto, using(cg_reading::proofs::Skip::taken_length), unfolding(cg_grammar::specs::OperandReading::plain_count_at))]
 fn count(arrow: u8, bytes: &[u8]) -> Result<(u128, &[u8]), ReadFault>
     ensures read { (end : ℕ) → Gives (λ x. (x.0, x.1.now)) result
         (plain_count_at arrow end bytes.now) }
@@ -57,7 +57,7 @@ fn count(arrow: u8, bytes: &[u8]) -> Result<(u128, &[u8]), ReadFault>
 
 /// Ups or downs.
 #[inline(always)]
-#[tactic(auto, unfolding(cg_grammar::specs::Reading::ups_tree_at))]
+#[tactic(auto, unfolding(cg_grammar::specs::OperandReading::ups_tree_at))]
 pub fn ups(bytes: &[u8]) -> Result<(Arrows, &[u8]), ReadFault>
     ensures read { (end : ℕ) → Gives (λ x. (arrows_tree x.0, x.1.now)) result
         (ups_tree_at end bytes.now) }
@@ -78,7 +78,7 @@ pub fn ups(bytes: &[u8]) -> Result<(Arrows, &[u8]), ReadFault>
 }
 
 /// The count of a nimber, or 1.
-#[tactic(auto, unfolding(cg_grammar::specs::Reading::nim_count_at))]
+#[tactic(auto, unfolding(cg_grammar::specs::OperandReading::nim_count_at))]
 fn nim_count(bytes: &[u8]) -> Result<(u128, &[u8]), ReadFault>
     ensures read { (end : ℕ) → Gives (λ x. (x.0, x.1.now)) result (nim_count_at end bytes.now) }
     ensures shorter { IfOk result (λ x. length x.1.now ≤ length bytes.now) }
@@ -91,7 +91,7 @@ fn nim_count(bytes: &[u8]) -> Result<(u128, &[u8]), ReadFault>
 
 /// A nimber.
 #[inline(always)]
-#[tactic(auto, unfolding(cg_grammar::specs::Reading::nim_at))]
+#[tactic(auto, unfolding(cg_grammar::specs::OperandReading::nim_at))]
 pub fn nim(bytes: &[u8]) -> Result<(u128, &[u8]), ReadFault>
     ensures read { (end : ℕ) → Gives (λ x. (nimber x.0, x.1.now)) result (nim_at end bytes.now) }
     ensures shorter { IfOk result (λ x. length x.1.now < length bytes.now) }
@@ -115,7 +115,7 @@ pub fn is_arrow(byte: u8) -> bool
 
 /// Ups or downs, if some come.
 #[inline(always)]
-#[tactic(auto, unfolding(cg_grammar::specs::Reading::ups_option_at))]
+#[tactic(auto, unfolding(cg_grammar::specs::OperandReading::ups_option_at))]
 fn some_ups(bytes: &[u8]) -> Result<(Option<Arrows>, &[u8]), ReadFault>
     ensures read { (end : ℕ) → Gives (λ x. (arrows_option x.0, x.1.now)) result
         (ups_option_at end bytes.now) }
@@ -132,7 +132,7 @@ fn some_ups(bytes: &[u8]) -> Result<(Option<Arrows>, &[u8]), ReadFault>
 
 /// A nimber, if one comes.
 #[inline(always)]
-#[tactic(auto, unfolding(cg_grammar::specs::Reading::nim_option_at))]
+#[tactic(auto, unfolding(cg_grammar::specs::OperandReading::nim_option_at))]
 pub fn some_nim(bytes: &[u8]) -> Result<(Option<u128>, &[u8]), ReadFault>
     ensures read { (end : ℕ) → Gives (λ x. (nimber_option x.0, x.1.now)) result
         (nim_option_at end bytes.now) }
@@ -149,7 +149,7 @@ pub fn some_nim(bytes: &[u8]) -> Result<(Option<u128>, &[u8]), ReadFault>
 
 /// The ups and the nimber that may stand together behind an operand.
 #[inline(always)]
-#[tactic(auto, unfolding(cg_grammar::specs::Reading::tail_at))]
+#[tactic(auto, unfolding(cg_grammar::specs::OperandReading::tail_at))]
 pub fn tail(bytes: &[u8]) -> Result<((Option<Arrows>, Option<u128>), &[u8]), ReadFault>
     ensures read { (end : ℕ) → Gives (λ x. ((arrows_option x.0.0, nimber_option x.0.1), x.1.now)) result
         (tail_at end bytes.now) }

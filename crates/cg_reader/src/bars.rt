@@ -1,6 +1,6 @@
 //! Runs of bars.
 ghost use Rattle.std.specs.Prelude.{◌≡◌, ◌<◌, ◌≤◌, length, IfOk};
-ghost use Rattle.cg_grammar.specs.Reading.{bars_at};
+ghost use Rattle.cg_grammar.specs.OperandReading.{bars_at};
 ghost use Rattle.cg_reading.specs.Gives.{Gives};
 
 use cg_reading::{ReadFault, after_all};

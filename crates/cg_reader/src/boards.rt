@@ -1,10 +1,10 @@
 //! Boards and heaps of octal games: with switches, tiny and miny the operands that hold no expression.
 ghost use Rattle.std.specs.Prelude.{◌≡◌, ◌<◌, ◌≤◌, length, IfOk, ℕ};
 ghost use Rattle.cg_reading.specs.Gives.{Gives};
-ghost use Rattle.cg_grammar.specs.Reading.{enclosed_octal_at, enclosed_string_at, enclosed_strings_at};
-ghost use Rattle.cg_grammar.specs.Reading.{string_and_digits_at, two_strings_at};
-ghost use Rattle.cg_grammar.specs.Reading.{Of_octal, Of_one_text, Of_two_texts, behind_named_at};
-ghost use Rattle.cg_grammar.specs.Reading.{named_at, named_word_at, plain_special_at};
+ghost use Rattle.cg_grammar.specs.OperandReading.{enclosed_octal_at, enclosed_string_at, enclosed_strings_at};
+ghost use Rattle.cg_grammar.specs.OperandReading.{string_and_digits_at, two_strings_at};
+ghost use Rattle.cg_grammar.specs.OperandReading.{Of_octal, Of_one_text, Of_two_texts, behind_named_at};
+ghost use Rattle.cg_grammar.specs.OperandReading.{named_at, named_word_at, plain_special_at};
 ghost use Rattle.cg_query.specs.Tree.{game};
 ghost use Rattle.cg_query.specs.Trees.{tree_of};
 ghost use Rattle.cg_grammar.specs.Values.{one_text as tree_of_one, two_texts as tree_of_two};
@@ -43,7 +43,7 @@ const NAMED: [(&[u8], Named); 11] = [
 ];
 
 /// A text between quotation marks and parentheses.
-#[tactic(auto, unfolding(cg_grammar::specs::Reading::enclosed_string_at))]
+#[tactic(auto, unfolding(cg_grammar::specs::OperandReading::enclosed_string_at))]
 fn enclosed_string(alloc: Global, bytes: &[u8]) -> Result<(Text, &[u8]), ReadFault>
     ensures read { (end : ℕ) → Gives (λ x. (x.0, x.1.now)) result
         (enclosed_string_at end bytes.now) }
@@ -56,7 +56,7 @@ fn enclosed_string(alloc: Global, bytes: &[u8]) -> Result<(Text, &[u8]), ReadFau
 }
 
 /// Two texts with a comma between them.
-#[tactic(auto, unfolding(cg_grammar::specs::Reading::two_strings_at))]
+#[tactic(auto, unfolding(cg_grammar::specs::OperandReading::two_strings_at))]
 fn two_strings(alloc: Global, bytes: &[u8]) -> Result<((Text, Text), &[u8]), ReadFault>
     ensures read { (end : ℕ) → Gives (λ x. (x.0, x.1.now)) result (two_strings_at end bytes.now) }
     ensures shorter { IfOk result (λ x. length x.1.now < length bytes.now) }
@@ -68,7 +68,7 @@ fn two_strings(alloc: Global, bytes: &[u8]) -> Result<((Text, Text), &[u8]), Rea
 }
 
 /// Two texts between parentheses.
-#[tactic(auto, unfolding(cg_grammar::specs::Reading::enclosed_strings_at))]
+#[tactic(auto, unfolding(cg_grammar::specs::OperandReading::enclosed_strings_at))]
 fn enclosed_strings(alloc: Global, bytes: &[u8]) -> Result<((Text, Text), &[u8]), ReadFault>
     ensures read { (end : ℕ) → Gives (λ x. (x.0, x.1.now)) result
         (enclosed_strings_at end bytes.now) }
@@ -81,7 +81,7 @@ fn enclosed_strings(alloc: Global, bytes: &[u8]) -> Result<((Text, Text), &[u8])
 }
 
 /// A text and a number with a comma between them.
-#[tactic(auto, unfolding(cg_grammar::specs::Reading::string_and_digits_at))]
+#[tactic(auto, unfolding(cg_grammar::specs::OperandReading::string_and_digits_at))]
 fn string_and_digits(alloc: Global, bytes: &[u8]) -> Result<((Text, u128), &[u8]), ReadFault>
     ensures read { (end : ℕ) → Gives (λ x. (x.0, x.1.now)) result
         (string_and_digits_at end bytes.now) }
@@ -94,7 +94,7 @@ fn string_and_digits(alloc: Global, bytes: &[u8]) -> Result<((Text, u128), &[u8]
 }
 
 /// A text and a number between parentheses.
-#[tactic(auto, unfolding(cg_grammar::specs::Reading::enclosed_octal_at))]
+#[tactic(auto, unfolding(cg_grammar::specs::OperandReading::enclosed_octal_at))]
 fn enclosed_octal(alloc: Global, bytes: &[u8]) -> Result<((Text, u128), &[u8]), ReadFault>
     ensures read { (end : ℕ) → Gives (λ x. (x.0, x.1.now)) result
         (enclosed_octal_at end bytes.now) }
@@ -194,7 +194,7 @@ fn behind_named(alloc: Global, named: Named, bytes: &[u8]) -> Result<(Found, &[u
 }
 
 /// Tiny or miny, a board, or a heap of an octal game.
-#[tactic(auto, unfolding(cg_grammar::specs::Reading::named_at))]
+#[tactic(auto, unfolding(cg_grammar::specs::OperandReading::named_at))]
 fn named_operand(alloc: Global, bytes: &[u8]) -> Result<(Found, &[u8]), ReadFault>
     ensures read { (end : ℕ) → Gives (λ x. (found_of x.0, x.1.now)) result
         (named_at end bytes.now) }
@@ -205,7 +205,7 @@ fn named_operand(alloc: Global, bytes: &[u8]) -> Result<(Found, &[u8]), ReadFaul
 }
 
 /// A switch, tiny or miny, a board, or a heap of an octal game.
-#[tactic(auto, unfolding(cg_grammar::specs::Reading::plain_special_at))]
+#[tactic(auto, unfolding(cg_grammar::specs::OperandReading::plain_special_at))]
 pub fn plain_special(alloc: Global, bytes: &[u8]) -> Result<(Found, &[u8]), ReadFault>
     ensures read { (end : ℕ) → Gives (λ x. (found_of x.0, x.1.now)) result
         (plain_special_at end bytes.now) }

@@ -45,7 +45,7 @@ pub fn joined(
 
 /// An operand that was read, with the ups and the nimber that may stand together behind it.
 #[inline(always)]
-#[tactic(auto, unfolding(cg_grammar::specs::Reading::tail_of_at, cg_grammar::specs::Reading::tail_at, cg_grammar::specs::Reading::ups_option_at, cg_grammar::specs::Reading::nim_option_at))]
+#[tactic(auto, unfolding(cg_grammar::specs::Reading::tail_of_at, cg_grammar::specs::OperandReading::tail_at, cg_grammar::specs::OperandReading::ups_option_at, cg_grammar::specs::OperandReading::nim_option_at))]
 pub fn behind_operand(
     alloc: Global,
     operand: Found,

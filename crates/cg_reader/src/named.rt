@@ -4,8 +4,8 @@ ghost use Rattle.cg_reading.specs.Bytes.{has};
 ghost use Rattle.cg_reading.specs.Gives.{Gives};
 ghost use Rattle.cg_reading.specs.Readers.{skipped};
 ghost use Rattle.cg_grammar.specs.Grammar.{printable};
-ghost use Rattle.cg_grammar.specs.Reading.{over_at, number_at, switch_at, printable_at, string_at};
-ghost use Rattle.cg_grammar.specs.Reading.{Of_tiny, behind_named_at, enclosed_number_at};
+ghost use Rattle.cg_grammar.specs.OperandReading.{over_at, number_at, switch_at, printable_at, string_at};
+ghost use Rattle.cg_grammar.specs.OperandReading.{Of_tiny, behind_named_at, enclosed_number_at};
 ghost use Rattle.cg_reader.specs.Views.{found_of};
 
 use crate::found::Found;
@@ -14,7 +14,7 @@ use cg_reading::{ReadFault, after_blanks, after_byte, digits, is_byte};
 use std::alloc::Global;
 
 /// A denominator behind a slash, or 1.
-#[tactic(auto, unfolding(cg_grammar::specs::Reading::over_at))]
+#[tactic(auto, unfolding(cg_grammar::specs::OperandReading::over_at))]
 fn over(bytes: &[u8]) -> Result<(u128, &[u8]), ReadFault>
     ensures read { (end : ℕ) → Gives (λ x. (x.0, x.1.now)) result (over_at end bytes.now) }
     ensures shorter { IfOk result (λ x. length x.1.now ≤ length bytes.now) }
@@ -26,7 +26,7 @@ fn over(bytes: &[u8]) -> Result<(u128, &[u8]), ReadFault>
 }
 
 /// A number, by its numerator and denominator.
-#[tactic(auto, unfolding(cg_grammar::specs::Reading::number_at))]
+#[tactic(auto, unfolding(cg_grammar::specs::OperandReading::number_at))]
 fn number(bytes: &[u8]) -> Result<((u128, u128), &[u8]), ReadFault>
     ensures read { (end : ℕ) → Gives (λ x. (x.0, x.1.now)) result (number_at end bytes.now) }
     ensures shorter { IfOk result (λ x. length x.1.now < length bytes.now) }
@@ -37,7 +37,7 @@ fn number(bytes: &[u8]) -> Result<((u128, u128), &[u8]), ReadFault>
 }
 
 /// A switch.
-#[tactic(auto, using(cg_query::proofs::TreeOf::switch_tree), unfolding(cg_grammar::specs::Reading::switch_at))]
+#[tactic(auto, using(cg_query::proofs::TreeOf::switch_tree), unfolding(cg_grammar::specs::OperandReading::switch_at))]
 pub fn switch(bytes: &[u8]) -> Result<(Found, &[u8]), ReadFault>
     ensures read { (end : ℕ) → Gives (λ x. (found_of x.0, x.1.now)) result
         (switch_at end bytes.now) }
@@ -73,7 +73,7 @@ fn after_printable(bytes: &[u8]) -> &[u8]
 }
 
 /// All bytes in front that may stand between quotation marks.
-#[tactic(auto, using(cg_reading::proofs::Skip::taken_length, cg_reading::proofs::Skip::taken_take), unfolding(cg_grammar::specs::Reading::printable_at))]
+#[tactic(auto, using(cg_reading::proofs::Skip::taken_length, cg_reading::proofs::Skip::taken_take), unfolding(cg_grammar::specs::OperandReading::printable_at))]
 fn text(alloc: Global, bytes: &[u8]) -> Result<(Text, &[u8]), ReadFault>
     ensures read { (end : ℕ) → Gives (λ x. (x.0, x.1.now)) result (printable_at end bytes.now) }
     ensures shorter { IfOk result (λ x. length x.1.now ≤ length bytes.now) }
@@ -84,7 +84,7 @@ fn text(alloc: Global, bytes: &[u8]) -> Result<(Text, &[u8]), ReadFault>
 }
 
 /// A text between quotation marks.
-#[tactic(auto, unfolding(cg_grammar::specs::Reading::string_at))]
+#[tactic(auto, unfolding(cg_grammar::specs::OperandReading::string_at))]
 pub fn string(alloc: Global, bytes: &[u8]) -> Result<(Text, &[u8]), ReadFault>
     ensures read { (end : ℕ) → Gives (λ x. (x.0, x.1.now)) result (string_at end bytes.now) }
     ensures shorter { IfOk result (λ x. length x.1.now < length bytes.now) }
@@ -96,7 +96,7 @@ pub fn string(alloc: Global, bytes: &[u8]) -> Result<(Text, &[u8]), ReadFault>
 }
 
 /// A number between parentheses.
-#[tactic(auto, unfolding(cg_grammar::specs::Reading::enclosed_number_at))]
+#[tactic(auto, unfolding(cg_grammar::specs::OperandReading::enclosed_number_at))]
 fn enclosed_number(bytes: &[u8]) -> Result<((u128, u128), &[u8]), ReadFault>
     ensures read { (end : ℕ) → Gives (λ x. (x.0, x.1.now)) result
         (enclosed_number_at end bytes.now) }

@@ -5,7 +5,7 @@ ghost use Rattle.cg_reading.specs.Bytes.{has};
 ghost use Rattle.cg_reading.specs.Gives.{Gives};
 ghost use Rattle.cg_reading.specs.Readers.{most_skipped};
 ghost use Rattle.cg_grammar.specs.Grammar.{letter, is_free};
-ghost use Rattle.cg_grammar.specs.Reading.{lettered_at, name_at, use_at};
+ghost use Rattle.cg_grammar.specs.OperandReading.{lettered_at, name_at, use_at};
 ghost use Rattle.cg_grammar.specs.Values.{letter_or_digit};
 ghost use Rattle.cg_reader.specs.Views.{found_of};
 
@@ -53,7 +53,7 @@ fn after_letters(most: u8, bytes: &[u8]) -> &[u8]
 }
 
 /// All letters and digits in front, sixteen at most, the first of which is a letter.
-#[tactic(auto, unfolding(cg_grammar::specs::Reading::lettered_at))]
+#[tactic(auto, unfolding(cg_grammar::specs::OperandReading::lettered_at))]
 pub fn lettered(bytes: &[u8]) -> Result<(&[u8], &[u8]), ReadFault>
     ensures read { (end : ℕ) → Gives (λ x. (x.0.now, x.1.now)) result (lettered_at end bytes.now) }
     ensures shorter { IfOk result (λ x. length x.1.now < length bytes.now) }
@@ -91,7 +91,7 @@ fn is_free(word: &[u8]) -> bool
 }
 
 /// A name.
-#[tactic(auto, unfolding(cg_grammar::specs::Reading::name_at))]
+#[tactic(auto, unfolding(cg_grammar::specs::OperandReading::name_at))]
 fn name(bytes: &[u8]) -> Result<(&[u8], &[u8]), ReadFault>
     ensures read { (end : ℕ) → Gives (λ x. (x.0.now, x.1.now)) result (name_at end bytes.now) }
     ensures shorter { IfOk result (λ x. length x.1.now < length bytes.now) }
@@ -106,7 +106,7 @@ fn name(bytes: &[u8]) -> Result<(&[u8], &[u8]), ReadFault>
 
 /// A use of a name.
 #[inline(never)]
-#[tactic(auto, using(cg_query::proofs::TreeOf::used_tree), unfolding(cg_grammar::specs::Reading::use_at))]
+#[tactic(auto, using(cg_query::proofs::TreeOf::used_tree), unfolding(cg_grammar::specs::OperandReading::use_at))]
 pub fn use_of_name(alloc: Global, line_end: u64, bytes: &[u8]) -> Result<(Found, &[u8]), ReadFault>
     requires { length bytes.now ≤ line_end }
     ensures read { Gives (λ x. (found_of x.0, x.1.now)) result (use_at line_end bytes.now) }

@@ -5,7 +5,8 @@ ghost use Rattle.cg_reading.specs.Bytes.{has};
 ghost use Rattle.cg_reading.specs.Gives.{Gives};
 ghost use Rattle.cg_grammar.specs.Reading.{special_at, bare_special_at, plain_primary_at};
 ghost use Rattle.cg_grammar.specs.Reading.{times_at, counted_multiple_at};
-ghost use Rattle.cg_grammar.specs.Reading.{plain_counted_term_at, ups_term_at};
+ghost use Rattle.cg_grammar.specs.OperandReading.{ups_term_at};
+ghost use Rattle.cg_grammar.specs.Reading.{plain_counted_term_at};
 ghost use Rattle.cg_grammar.specs.Reading.{special_term_at, uncounted_term_at, bracket_at};
 ghost use Rattle.cg_grammar.specs.Reading.{plain_begin, uncounted_begin, term_begin, sum_at, paren_at};
 ghost use Rattle.cg_reader.specs.Views.{found_of};
@@ -22,7 +23,7 @@ use std::alloc::Global;
 
 /// Ups or downs, and a nimber if one stands together with them.
 #[inline(never)]
-#[tactic(auto, unfolding(cg_grammar::specs::Reading::ups_term_at))]
+#[tactic(auto, unfolding(cg_grammar::specs::OperandReading::ups_term_at))]
 fn ups_term(alloc: Global, bytes: &[u8]) -> Result<(Found, &[u8]), ReadFault>
     ensures read { (end : ℕ) → Gives (λ x. (found_of x.0, x.1.now)) result
         (ups_term_at end bytes.now) }

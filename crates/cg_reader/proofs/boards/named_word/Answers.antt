@@ -1,6 +1,6 @@
 use Rattle.std.specs.Prelude.{map}
 use Rattle.cg_reading.proofs.WordSteps.{gives_word}
-use Rattle.cg_grammar.specs.Reading.{named_word_at}
+use Rattle.cg_grammar.specs.OperandReading.{named_word_at}
 use Rattle.cg_reader.specs.Named.{named_view}
 use Rattle.cg_reader.specs.declared.boards.TheConstants.{NAMED}
 use Rattle.cg_reader.proofs.boards.named_word.Goals as goal
