@@ -13,12 +13,20 @@ ghost use Rattle.cg_canon.specs.Works.{work_state};
 
 use crate::indexing::index_of_handle;
 use crate::work::Work;
-use cg_arena::{Read, Summary};
+use cg_arena::{Arena, Read, Summary};
 use cg_cells::CellStore;
 use cg_nodes::{BoardForms, GameFacts, Handle};
 use std::alloc::{AllocError, Global};
 
 impl<'a, B: BoardForms, S: CellStore<GameFacts<B>>> Work<'a, B, S> {
+    /// The games, each at its index.
+    #[inline(always)]
+    pub fn arena(&self) -> &Arena
+        ensures { result.now ≡ self.now.arena }
+    {
+        &self.cache.memo.interner.arena
+    }
+
     /// The index of the handle's game, which enters the arena if it isn't found there. The only error is want of
     /// memory.
     pub fn index(&mut self, alloc: Global, a: Handle) -> Result<u32, AllocError>
