@@ -11,7 +11,7 @@ use Rattle.cg_moves.proofs.MoveLemmas.{next_in_row}
 use Rattle.cg_moves.proofs.Same.{and-true, both-true}
 use Rattle.cg_moves.proofs.WordBits.{marks_same, marks_without, row_end}
 use Rattle.cg_amazons.specs.Amazons.{up, down, back, forth, step}
-use Rattle.cg_amazons.specs.AmazonsLaws.{if_false, if_true, some_before, two_steps, up_is}
+use Rattle.cg_amazons.proofs.RayLaws.{if_false, if_true, some_before, two_steps, up_is}
 use Rattle.cg_amazons.specs.Rays.{IsBelow, IsCell, is_inner}
 use Rattle.cg_amazons.specs.declared.way.Way.{Way}
 use Rattle.cg_amazons.specs.declared.way.Way.TheVariants.{UpBack, Up, UpForth, Back, Forth, DownBack, Down, DownForth}

@@ -1,3 +1,5 @@
+pub mod RayLaws
+pub mod AmazonsLaw
 pub mod CellBits
 pub mod RayLines
 pub mod Taken

@@ -8,8 +8,9 @@ use Rattle.std.proofs.lemmas.Bool.Decides.{eqb_tells}
 use Rattle.cg_moves.specs.Grid.{Grid}
 use Rattle.cg_moves.specs.Words.{IsWithBit, Marks}
 use Rattle.cg_amazons.specs.Amazons.{Reaches, blocked, empty, is_empty, with_queen}
-use Rattle.cg_amazons.specs.AmazonsLaws.{within}
-use Rattle.cg_amazons.specs.AmazonsMoves.{IsMoveBelow, IsQueenMove, IsShot, reach_within}
+use Rattle.cg_amazons.proofs.RayLaws.{within}
+use Rattle.cg_amazons.specs.MoveParts.{IsMoveBelow, IsQueenMove, IsShot}
+use Rattle.cg_amazons.proofs.AmazonsLaw.{reach_within}
 use Rattle.cg_amazons.specs.Rays.{AreQueenWords, cells_of}
 use Rattle.cg_amazons.specs.Taking.{AnyMarked, Takes}
 use Rattle.cg_amazons.specs.declared.queens.QueenWords.{QueenWords}

@@ -10,7 +10,7 @@ use Rattle.std.proofs.lemmas.Nat.Bits.{bit_at-zero}
 use Rattle.cg_moves.specs.Rules.{In}
 use Rattle.cg_moves.specs.Words.{IsWithBit}
 use Rattle.cg_amazons.specs.Amazons.{Along, Reaches, blocked, empty, is_empty, line, open_step, step}
-use Rattle.cg_amazons.specs.AmazonsLaws.{line_has, line_is, open_has, open_is, within}
+use Rattle.cg_amazons.proofs.RayLaws.{line_has, line_is, open_has, open_is, within}
 use Rattle.cg_amazons.specs.Rays.{IsBelow, IsCell, cells_of}
 use Rattle.cg_amazons.specs.declared.way.Way.{Way}
 use Rattle.cg_amazons.specs.declared.way.Way.TheVariants.{UpBack, Up, UpForth, Back, Forth, DownBack, Down, DownForth}
@@ -50,9 +50,6 @@ open_one : (rows columns free word : ℕ) (way : Way) (i : ℕ) → i < rows * c
     → IsCell (bit_and word free) (open_step columns (cells_of free (rows * columns)) way i)
 open_one rows columns free word way i l is j = (there, back)
   where
-    cells : List ℕ
-    cells = cells_of free (rows * columns)
-
     there : bit_at (bit_and word free) j ≡ 1 → open_step columns (cells_of free (rows * columns)) way i ≡ Some j
     there e =
         let p = and_is word free j e in
@@ -166,12 +163,6 @@ module _ (rows columns free : ℕ) (way : Way) (cell : ℕ) where
 
   module _ (turn at found word : ℕ) (more : turn < rows * columns) (state : IsRayTo rows columns free way cell turn at found)
       (stepped : IsCell word (option_and_then (step columns (rows * columns) way) state.here)) where
-    abbrev left : ℕ
-    left = rows * columns - (turn + 1)
-
-    there : Option ℕ
-    there = option_and_then (open_step columns cells way) state.here
-
     fewer : rows * columns - turn ≡ suc (rows * columns - (turn + 1))
     fewer = omega arith
 

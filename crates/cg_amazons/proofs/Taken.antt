@@ -21,7 +21,8 @@ use Rattle.cg_form.proofs.Firsts.{in-append, in-append_left, in-append_right}
 use Rattle.cg_moves.proofs.Members.{all_from, carry, in_one}
 use Rattle.cg_moves.proofs.RisingLemmas.{in-rising, rising-in, rising-rises}
 use Rattle.cg_amazons.specs.Amazons.{amazons, amazons_moves, blocked, empty, moves_below, queen}
-use Rattle.cg_amazons.specs.AmazonsMoves.{IsMoveBelow, below_has, below_is}
+use Rattle.cg_amazons.specs.MoveParts.{IsMoveBelow}
+use Rattle.cg_amazons.proofs.AmazonsLaw.{below_has, below_is}
 use Rattle.cg_amazons.specs.Taking.{AnyMarked, IfMarked, Takes}
 
 -- ---- lists that rise with the same members

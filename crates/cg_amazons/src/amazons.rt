@@ -1,7 +1,7 @@
 //! Amazons.
 ghost use Rattle.std.specs.Prelude.{◌≡◌, [], IfOk, length, true};
 ghost use Rattle.cg_amazons.specs.Amazons.{amazons, queen};
-ghost use Rattle.cg_amazons.specs.AmazonsMoves.{IsMoveBelow};
+ghost use Rattle.cg_amazons.specs.MoveParts.{IsMoveBelow};
 ghost use Rattle.cg_amazons.specs.Rays.{AreWordsOf};
 ghost use Rattle.cg_amazons.specs.Taking.{Takes};
 
@@ -72,11 +72,8 @@ fn sorted_boards_of(alloc: Global, board: &Board, player: Player) -> Result<Vec<
 
 impl Rules for Amazons {
     ghost use Rattle.cg_amazons.specs.Amazons.{amazons};
-    ghost use Rattle.cg_amazons.specs.AmazonsMoves.{amazons_lawful};
 
     ghost game = { λ _. amazons };
-
-    ghost lawful = { λ _. amazons_lawful };
 
     fn moves(&self, alloc: Global, board: &Board, player: Player) -> Result<Boards, AllocError> {
         // Read for the proof alone: the board has columns.
@@ -92,4 +89,6 @@ impl Rules for Amazons {
     fn number(&self) -> u8 {
         3
     }
+
+    fn lawful(&self) {}
 }

@@ -3,7 +3,7 @@ ghost use Rattle.std.specs.Prelude.{◌≡◌, ◌<◌, ◌≤◌, length, slice
 ghost use Rattle.cg_moves.specs.Grid.{with_cells};
 ghost use Rattle.cg_moves.specs.PlaneBits.{IsWithIndex};
 ghost use Rattle.cg_amazons.specs.Amazons.{amazons, blocked, with_queen};
-ghost use Rattle.cg_amazons.specs.AmazonsMoves.{IsMoveBelow, IsQueenMove, IsShot};
+ghost use Rattle.cg_amazons.specs.MoveParts.{IsMoveBelow, IsQueenMove, IsShot};
 ghost use Rattle.cg_amazons.specs.Rays.{AreWordsOf};
 ghost use Rattle.cg_amazons.specs.Taking.{AnyMarked, IfMarked, Takes};
 

@@ -1,3 +1,6 @@
+pub mod Capture
+pub mod Cuts
+pub mod ClobberLaw
 pub mod Placing
 pub mod CaptureMarks
 pub mod PairMoves

@@ -15,7 +15,7 @@ use Rattle.cg_pieces.proofs.NeighbourSets.{piece-cell-below}
 use Rattle.cg_pieces.proofs.OpenWords.{marks-test, test-marks}
 use Rattle.cg_clobber.specs.declared.way.Way.{Way}
 use Rattle.cg_clobber.specs.declared.way.Way.TheVariants.{Down, Forth}
-use Rattle.cg_clobber.specs.Cuts.{capture-may, next-down, next-forth, stones-are}
+use Rattle.cg_clobber.proofs.Cuts.{capture-may, next-down, next-forth, stones-are}
 use Rattle.cg_clobber.specs.Moves.{captures, captures_onto, captures_that_way, has_stone, next_cell, stones}
 
 -- a capture as the other player's stones stand for one

@@ -16,7 +16,7 @@ use Rattle.cg_moves.proofs.Same.{and-true}
 use Rattle.cg_moves.proofs.SameMembers.{HasAll, rising-same}
 use Rattle.cg_clobber.specs.declared.way.Way.{Way}
 use Rattle.cg_clobber.specs.declared.way.Way.TheVariants.{Up, Down, Back, Forth}
-use Rattle.cg_clobber.specs.Capture.{onto}
+use Rattle.cg_clobber.proofs.Capture.{onto}
 use Rattle.cg_clobber.specs.Moves.{has_stone, moves_at, moves_onto, moves_that_way, next_cell, other, own, ways}
 use Rattle.cg_clobber.specs.Pairs.{by_pairs, onward, paired, toward, toward_back}
 use Rattle.cg_clobber.proofs.CaptureMarks.{own-stone-inside}

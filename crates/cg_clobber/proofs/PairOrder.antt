@@ -18,8 +18,8 @@ use Rattle.cg_moves.proofs.Members.{in-flat_map}
 use Rattle.cg_moves.proofs.RisingLemmas.{first-less, rises-none, rises-on}
 use Rattle.cg_moves.proofs.Same.{and-true}
 use Rattle.cg_clobber.specs.declared.way.Way.TheVariants.{Up, Down, Back, Forth}
-use Rattle.cg_clobber.specs.Capture.{onto}
-use Rattle.cg_clobber.specs.Cuts.{if-some, unless-none}
+use Rattle.cg_clobber.proofs.Capture.{onto}
+use Rattle.cg_clobber.proofs.Cuts.{if-some, unless-none}
 use Rattle.cg_clobber.specs.Moves.{captures, empty, has_stone, moves_that_way, next_cell, other, own, with_capture}
 use Rattle.cg_clobber.proofs.CaptureMarks.{other-stone-inside, own-stone-inside}
 

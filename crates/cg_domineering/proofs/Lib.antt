@@ -1,3 +1,5 @@
+pub mod Cuts
+pub mod DomineeringLaw
 pub mod Placing
 pub mod Filling
 pub mod Moving

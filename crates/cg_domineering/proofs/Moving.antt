@@ -12,7 +12,7 @@ use Rattle.cg_pieces.proofs.FirstCells.{moving-by}
 use Rattle.cg_pieces.proofs.GrowingSets.{or-left, or-parts, or-right}
 use Rattle.cg_pieces.proofs.Lines.{below-is, beside-is}
 use Rattle.cg_pieces.proofs.OpenWords.{marks-test, test-marks}
-use Rattle.cg_domineering.specs.Cuts.{dominoes-are, fits-may, may-fits}
+use Rattle.cg_domineering.proofs.Cuts.{dominoes-are, fits-may, may-fits}
 use Rattle.cg_domineering.specs.Moves.{dominoes, fits, other_cell}
 use Rattle.cg_domineering.proofs.Placing.{other-after}
 

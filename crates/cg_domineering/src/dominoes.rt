@@ -1,8 +1,6 @@
 //! The moves of Domineering.
-ghost use Rattle.std.specs.Prelude.{◌≡◌, ◌<◌, IfOk, length, map, true};
+ghost use Rattle.std.specs.Prelude.{◌≡◌, ◌<◌, IfOk, length, map, refl, true};
 ghost use Rattle.cg_moves.specs.Grid.{with_cells};
-ghost use Rattle.cg_domineering.specs.Cuts.{dominoes-are};
-ghost use Rattle.cg_domineering.specs.Lawful.{domineering_lawful};
 ghost use Rattle.cg_domineering.specs.Moves.{domineering, dominoes, fits, moves_of, other_cell, with_domino};
 
 use crate::fitting::{empty_cells, left_spots, right_spots, spots};
@@ -85,7 +83,7 @@ impl NeighbourRules for Domineering {
         below | beside
     }
 
-    ghost lawful = { λ rules. dominoes-are };
+    ghost lawful = { λ rules. record { blank = refl; past = refl } };
 }
 
 impl Rules for Domineering {
@@ -124,5 +122,5 @@ impl Rules for Domineering {
         1
     }
 
-    ghost lawful = { λ rules. domineering_lawful };
+    fn lawful(&self) {}
 }

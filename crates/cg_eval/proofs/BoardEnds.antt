@@ -17,21 +17,21 @@ use Rattle.cg_moves.specs.Rules.{GameRules, cuts}
 use Rattle.cg_moves.specs.Texts.{read_of}
 use Rattle.cg_moves.proofs.ReachLemmas.{reach-last}
 use Rattle.cg_moves.specs.Grid.{is_in_rows}
-use Rattle.cg_domineering.specs.Lawful.{domineering_lawful}
+use Rattle.cg_domineering.proofs.DomineeringLaw.{domineering_lawful}
 use Rattle.cg_domineering.specs.Moves.{domineering}
-use Rattle.cg_clobber.specs.Lawful.{clobber_lawful}
+use Rattle.cg_clobber.proofs.ClobberLaw.{clobber_lawful}
 use Rattle.cg_clobber.specs.Moves.{clobber}
 use Rattle.cg_amazons.specs.Amazons.{amazons}
-use Rattle.cg_amazons.specs.AmazonsMoves.{amazons_lawful}
+use Rattle.cg_amazons.proofs.AmazonsLaw.{amazons_lawful}
 use Rattle.cg_graph.specs.ColouredGraphs.{ColouredGraph, coloured_graph_read, coloured_graph_rules, coloured_graph_start, edges_of}
-use Rattle.cg_graph.specs.ColouringLaw.{colouring_lawful}
+use Rattle.cg_graph.proofs.ColouringLaw.{colouring_lawful}
 use Rattle.cg_graph.specs.Drawings.{colours_of, drawing_read, drawing_rules, drawing_start, graph_of}
-use Rattle.cg_graph.specs.HackenbushLaw.{hackenbush_lawful, length-kept}
+use Rattle.cg_graph.proofs.HackenbushLaw.{hackenbush_lawful, length-kept}
 use Rattle.cg_graph.specs.declared.edge.ColouredEdge.{ColouredEdge}
 use Rattle.cg_graph.specs.declared.fault.GraphFault.{GraphFault}
-use Rattle.cg_strip.specs.StripLaws.{strip_lawful}
+use Rattle.cg_strip.proofs.StripLaw.{strip_lawful}
 use Rattle.cg_strip.specs.Toads.{toads_game}
-use Rattle.cg_strip.specs.ToadsLaws.{toads_lawful}
+use Rattle.cg_strip.proofs.ToadsLaw.{toads_lawful}
 use Rattle.cg_values.specs.Items.{board_items, cut_items, value_item, value_items, whole_items}
 use Rattle.cg_query.specs.declared.kind.GameKind.{GameKind}
 use Rattle.cg_query.specs.declared.kind.GameKind.TheVariants.{Domineering, Clobber, Amazons, Toads, Strip, Hackenbush, Col, Snort}

@@ -17,9 +17,9 @@ use Rattle.cg_strip.specs.Reading.{rules_text_at}
 use Rattle.cg_strip.specs.RuleFaults.{IsFirstBroken, IsInGrammar, IsReadAs, IsRulesPlace, book_of}
 use Rattle.cg_strip.specs.Rulebook.{IsRulebook, Rulebook, symbols_of}
 use Rattle.cg_strip.specs.StripGame.{strip_game}
-use Rattle.cg_strip.specs.StripLaws.{board_parts}
+use Rattle.cg_strip.proofs.StripLaw.{board_parts}
 use Rattle.cg_strip.specs.Weighing.{IsFirstRising, Lowers, do_all_lower, does_lower, first_rising}
-use Rattle.cg_strip.specs.WeighingLemmas.{first_rising_is, lower_is, none_rising, one_lowers}
+use Rattle.cg_strip.proofs.WeighingLemmas.{first_rising_is, lower_is, none_rising, one_lowers}
 use Rattle.cg_strip.specs.declared.rule.Rule.{Rule}
 use Rattle.cg_strip.specs.declared.weight.Weight.{Weight}
 use Rattle.cg_strip.proofs.BoardLemmas.{board_is}

@@ -1,1 +1,2 @@
+pub mod ShoveLaw
 pub mod Shoving

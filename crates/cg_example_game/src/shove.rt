@@ -1,7 +1,6 @@
 //! The rules of Shove.
 ghost use Rattle.std.specs.Prelude.{◌≡◌, ◌++◌, ◌<◌, IfOk, length, map, true};
 ghost use Rattle.cg_moves.specs.Grid.{with_cells};
-ghost use Rattle.cg_example_game.specs.Lawful.{shove_lawful};
 ghost use Rattle.cg_example_game.specs.Shove.{moves_at, piece, shove, shoved};
 
 use cg_moves::{Board, Boards, Pieces, Player, Rules};
@@ -83,5 +82,5 @@ impl Rules for Shove {
         0
     }
 
-    ghost lawful = { λ rules. shove_lawful };
+    fn lawful(&self) {}
 }

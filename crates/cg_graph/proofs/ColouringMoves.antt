@@ -15,7 +15,7 @@ use Rattle.cg_moves.proofs.Counted.{counted-below, in_counted}
 use Rattle.cg_moves.proofs.Members.{all_from, in_flat_mapped}
 use Rattle.cg_moves.proofs.RisingLemmas.{in-rising}
 use Rattle.cg_graph.specs.Colouring.{AreNeighbours, IsColouringMove, are_adjacent, colourings_at, colourings_of, forbidden, free, may_colour}
-use Rattle.cg_graph.specs.ColouringLaw.{is_colouring}
+use Rattle.cg_graph.proofs.ColouringLaw.{is_colouring}
 use Rattle.cg_graph.proofs.Adjacent.{any_in}
 
 -- ---- neighbours

@@ -5,7 +5,7 @@ use Rattle.std.specs.Prelude.{slice_set}
 use Rattle.cg_dyadic.proofs.Truth.{false-from, true-or-not}
 use Rattle.cg_moves.proofs.Counted.{same-or-not}
 use Rattle.cg_graph.specs.Paths.{IsThere, colour, gone, kept}
-use Rattle.cg_graph.specs.HackenbushLaw.{length-kept}
+use Rattle.cg_graph.proofs.HackenbushLaw.{length-kept}
 
 pub there-or-gone : (cells : List ℕ) (k : ℕ) → (colour cells k ≡ gone) ⊎ IsThere cells k
 there-or-gone cells k = same-or-not (colour cells k) gone

@@ -1,3 +1,5 @@
+pub mod ColouringLaw
+pub mod HackenbushLaw
 pub mod Colours
 pub mod PathLemmas
 pub mod Cutting

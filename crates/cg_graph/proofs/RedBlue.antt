@@ -18,7 +18,7 @@ use Rattle.cg_moves.proofs.Totals.{options_of}
 use Rattle.cg_moves.proofs.Counted.{in_counted}
 use Rattle.cg_graph.specs.Paths.{Edge, IsSettled, IsThere, colour}
 use Rattle.cg_graph.specs.Hackenbush.{IsRedBlue, blue, cut, cuts_at, cuts_of, green, hackenbush, may_cut, red}
-use Rattle.cg_graph.specs.HackenbushLaw.{count, count-cut, hackenbush_lawful, has-cut, is_cut, may-there}
+use Rattle.cg_graph.proofs.HackenbushLaw.{count, count-cut, hackenbush_lawful, has-cut, is_cut, may-there}
 use Rattle.cg_graph.proofs.Colours.{there-or-gone}
 use Rattle.cg_graph.proofs.Cuts.{cut-gone, cut-part, cut-swap, one-stays, settled-cut}
 use Rattle.cg_moves.proofs.ConnectedLemmas.{or-cases}

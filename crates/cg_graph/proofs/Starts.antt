@@ -8,7 +8,7 @@ use Rattle.cg_moves.specs.Grid.{Grid, with_cells}
 use Rattle.cg_moves.proofs.Same.{both-true, bytes_eq-refl}
 use Rattle.cg_graph.specs.Drawings.{colours_of, drawing_rules, drawing_start, graph_of}
 use Rattle.cg_graph.specs.Hackenbush.{IsRedBlue, green}
-use Rattle.cg_graph.specs.HackenbushLaw.{length-kept}
+use Rattle.cg_graph.proofs.HackenbushLaw.{length-kept}
 use Rattle.cg_graph.specs.Paths.{Edge, colour, is_joined, settled}
 use Rattle.cg_graph.specs.declared.edge.ColouredEdge.{ColouredEdge}
 use Rattle.cg_graph.proofs.Colours.{kept-part, there-or-gone}

@@ -10,6 +10,3 @@ pub mod Worked
 -- what private contracts cite
 pub mod Labels
 pub mod Items
--- proofs that the implementation of the traits needs
-pub mod HackenbushLaw
-pub mod ColouringLaw

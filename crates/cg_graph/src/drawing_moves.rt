@@ -66,11 +66,7 @@ fn boards_of(
 }
 
 impl Rules for Hackenbush {
-    ghost use Rattle.cg_graph.specs.HackenbushLaw.{hackenbush_lawful};
-
     ghost game = { drawing_rules };
-
-    ghost lawful = { λ drawing. hackenbush_lawful (graph_of drawing) };
 
     fn moves(&self, alloc: Global, board: &Board, player: Player) -> Result<Boards, AllocError> {
         let boards = boards_of(alloc, self.edges(), board, player)?;
@@ -84,4 +80,6 @@ impl Rules for Hackenbush {
     fn number(&self) -> u8 {
         0
     }
+
+    fn lawful(&self) {}
 }

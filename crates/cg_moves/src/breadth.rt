@@ -60,6 +60,8 @@ fn expand<R: Rules>(
     requires none { tasks.old.items ≡ [] }
     ensures { IfOk result (λ _. AreAmong walk tasks.new.items) }
 {
+    // Called for the proof alone: the rules are lawful.
+    rules.lawful();
     list_followers(alloc, rules, board, all)?;
     enter_next(alloc, rules, edges, found, all, tasks)
 }
@@ -82,6 +84,8 @@ pub(crate) fn search_breadth<R: Rules>(
     requires start { In start.now walk.starts }
     ensures refused { result ≡ Err ReachFault.Positions → limit < length (reached walk) }
 {
+    // Called for the proof alone: the rules are lawful.
+    rules.lawful();
     let mut found = Found::new(alloc);
     found.find(start.copy(alloc)?, limit)?;
     let mut tasks = Vec::new(alloc);

@@ -89,6 +89,8 @@ fn enter_parts<R: Rules>(
     ensures tasks { IfOk result (λ _. Adds found.now tasks.old.items tasks.new.items
         (entered (parts_of (R.game rules.now) edges board.now))) }
 {
+    // Called for the proof alone: the rules are lawful.
+    rules.lawful();
     match edges {
         Edges::Moves => {
             push(counts, 1)?;

@@ -17,13 +17,17 @@ use crate::{Board, BoardFault, Rules};
 /// to, and as Right options those of the boards that Right's moves lead to.
 pub fn trees<R: Rules>(rules: &R)
     ensures { (p : Grid) → (R.game rules.now).has p ≡ true → IsTreeOfMoves (R.game rules.now) p }
-{}
+{
+    rules.lawful();
+}
 
 /// The boards that play can come to from a board of the game are those of the boards that Left's moves lead to, those
 /// of the boards that Right's moves lead to, and the board itself.
 pub fn reached<R: Rules>(rules: &R)
     ensures { (p : Grid) → (R.game rules.now).has p ≡ true → IsListOfReached (R.game rules.now) p }
-{}
+{
+    rules.lawful();
+}
 
 /// Lists of cells in rising order, each once: the order is strict, and the members are those that were given.
 pub fn rising()
@@ -36,7 +40,9 @@ pub fn l9<R: Rules>(rules: &R, board: &Board)
     requires cuts { cuts (R.game rules.now) ≡ true }
     requires has { (R.game rules.now).has board.now ≡ true }
     ensures { IsSumOfPieces (R.game rules.now) board.now }
-{}
+{
+    rules.lawful();
+}
 
 /// Rules cut lawfully where each move of a board is a move in one piece that leaves the other pieces as they are, and
 /// each move in a piece is such a move of the board: then the board is the sum of its pieces.
@@ -50,7 +56,9 @@ pub fn cut_by_moves()
 pub fn reached_pieces<R: Rules>(rules: &R)
     ensures { (p : Grid) → cuts (R.game rules.now) ≡ true → (R.game rules.now).has p ≡ true
         → IsListOfPieceReached (R.game rules.now) p }
-{}
+{
+    rules.lawful();
+}
 
 /// Where a text is refused as too large, the place is that of its 65th cell.
 pub fn large()

@@ -28,6 +28,8 @@ pub fn open<R: Rules>(
     ensures within { OnOk result (length (reach_of (R.game rules.now) start.now) ≤ limit) }
     ensures refused { result ≡ Err ReachFault.Positions → limit < length (reach_of (R.game rules.now) start.now) }
 {
+    // Called for the proof alone: the rules are lawful.
+    rules.lawful();
     let starts = singleton(alloc, start)?;
     open_all(alloc, rules, Edges::Moves, starts, limit)
 }
@@ -51,6 +53,8 @@ pub fn open_pieces<R: Rules>(
     ensures within { OnOk result (length (piece_reach_of (R.game rules.now) start.now) ≤ limit) }
     ensures refused { result ≡ Err ReachFault.Positions → limit < length (piece_reach_of (R.game rules.now) start.now) }
 {
+    // Called for the proof alone: the rules are lawful.
+    rules.lawful();
     let starts = pieces_in(alloc, rules, start)?;
     open_all(alloc, rules, Edges::Pieces, starts, limit)
 }

@@ -48,6 +48,8 @@ fn enter<R: Rules>(
     ensures less { IfOk result (λ _. work_left (play walk) tasks.new.items
         < work_left (play walk) (tasks.old.items ++ (Enter board ∷ []))) }
 {
+    // Called for the proof alone: the rules are lawful.
+    rules.lawful();
     if let Some(place) = visited.boards.known(&board) {
         push(&mut visited.pending, place)?;
         return Ok(());
@@ -160,6 +162,8 @@ fn step<R: Rules>(
         < work_left (play walk) (tasks.old.items ++ (task ∷ []))) }
     ensures refused { result ≡ Err ReachFault.Positions → limit < length (reached walk) }
 {
+    // Called for the proof alone: the rules are lawful.
+    rules.lawful();
     match task {
         Task::Known(place) => Ok(note(visited, tasks, place)?),
         Task::Enter(board) => Ok(enter(alloc, rules, edges, visited, tasks, all, board)?),
@@ -188,6 +192,8 @@ pub(crate) fn open_all<R: Rules>(
     ensures within { OnOk result (length (reached walk) ≤ limit) }
     ensures refused { result ≡ Err ReachFault.Positions → limit < length (reached walk) }
 {
+    // Called for the proof alone: the rules are lawful.
+    rules.lawful();
     let mut visited = Visited {
         boards: Found::new(alloc),
         next: Vec::new(alloc),

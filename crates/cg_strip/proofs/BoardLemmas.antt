@@ -13,7 +13,7 @@ use Rattle.cg_moves.specs.Texts.{is_foreign, ragged, next_place, refused_at, rea
 use Rattle.cg_strip.specs.Rulebook.{Rulebook, IsRule, IsRulebook, symbols_of}
 use Rattle.cg_strip.specs.Weighing.{do_all_lower, first_rising, IsFirstRising}
 use Rattle.cg_strip.specs.StripGame.{is_even}
-use Rattle.cg_strip.specs.WeighingLemmas.{none_rising, first_rising_is}
+use Rattle.cg_strip.proofs.WeighingLemmas.{none_rising, first_rising_is}
 use Rattle.cg_strip.specs.Boards.{IsBoardOf}
 use Rattle.cg_strip.specs.ToadsBoards.{toads_symbols, IsToadsBoard, IsNoToadsBoard}
 use Rattle.cg_strip.specs.declared.weight.Weight.{Weight}

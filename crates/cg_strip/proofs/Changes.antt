@@ -9,7 +9,7 @@ use Rattle.cg_moves.specs.Grid.{AreCells, Grid}
 use Rattle.cg_strip.specs.Placing.{IsChange, IsRuleOver}
 use Rattle.cg_strip.specs.Rulebook.{Rulebook, IsRulebook, is_weighted, symbols_of}
 use Rattle.cg_strip.specs.StripGame.{is_strip_board}
-use Rattle.cg_strip.specs.StripLaws.{board_parts}
+use Rattle.cg_strip.proofs.StripLaw.{board_parts}
 use Rattle.cg_strip.specs.Toads.{empty, frog, toad, toads_game}
 use Rattle.cg_strip.specs.declared.rule.Rule.{Rule}
 use Rattle.cg_strip.specs.declared.weight.Weight.{Weight}

@@ -1,3 +1,8 @@
+pub mod PlacingLemmas
+pub mod LoweringSteps
+pub mod WeighingLemmas
+pub mod StripLaw
+pub mod ToadsLaw
 pub mod Texts
 pub mod Productions
 pub mod SaidItems

@@ -14,9 +14,3 @@ pub mod Boards
 pub mod ToadsBoards
 -- what private contracts cite
 pub mod Hops
--- proofs that the implementation of the traits needs
-pub mod PlacingLemmas
-pub mod LoweringSteps
-pub mod WeighingLemmas
-pub mod StripLaws
-pub mod ToadsLaws

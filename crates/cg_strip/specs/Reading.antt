@@ -1,6 +1,6 @@
 -- Reading a rules text from its front, piece by piece. The functions of the code are told by these what they return.
 use Rattle.std.specs.Prelude.{ℕ, cond, ◌==◌, List, [], ◌∷◌, ◌⊎◌}
-use Rattle.std.proofs.Common.{inl, inr}
+use mathlib.Core.Logic.{inl, inr}
 use Rattle.cg_reading.specs.Bytes.{Class}
 use Rattle.cg_reading.specs.Readers.{Reader, then_at, or_at, many_at, made_at, one_at, bytes_at, placed_at}
 use Rattle.cg_reading.specs.TokenReaders.{byte_at, few_digits_at}

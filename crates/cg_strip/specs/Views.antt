@@ -1,6 +1,6 @@
 -- What the values stand for that the code hands on while it reads.
 use Rattle.std.specs.Prelude.{◌⊎◌}
-use Rattle.std.proofs.Common.{inl, inr}
+use mathlib.Core.Logic.{inl, inr}
 use Rattle.cg_strip.specs.Grammar.{Items}
 use Rattle.cg_strip.specs.declared.items.Item.{Item}
 use Rattle.cg_strip.specs.declared.items.Item.TheVariants.{Weighs, Rewrites}

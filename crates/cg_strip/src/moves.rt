@@ -8,11 +8,8 @@ use std::alloc::{AllocError, Global};
 
 impl Rules for Strip {
     ghost use Rattle.cg_strip.specs.StripGame.{strip_game};
-    ghost use Rattle.cg_strip.specs.StripLaws.{strip_lawful};
 
     ghost game = { strip_game };
-
-    ghost lawful = { strip_lawful };
 
     fn moves(&self, alloc: Global, board: &Board, player: Player) -> Result<Boards, AllocError> {
         let boards = boards_of(alloc, board, self.rules(), player)?;
@@ -26,4 +23,6 @@ impl Rules for Strip {
     fn number(&self) -> u8 {
         0
     }
+
+    fn lawful(&self) {}
 }

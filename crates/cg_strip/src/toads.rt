@@ -13,11 +13,8 @@ pub struct Toads;
 
 impl Rules for Toads {
     ghost use Rattle.cg_strip.specs.Toads.{toads_game};
-    ghost use Rattle.cg_strip.specs.ToadsLaws.{toads_lawful};
 
     ghost game = { λ _. toads_game };
-
-    ghost lawful = { λ _. toads_lawful };
 
     fn moves(&self, alloc: Global, board: &Board, player: Player) -> Result<Boards, AllocError> {
         let mut boards = Vec::new(alloc);
@@ -45,6 +42,8 @@ impl Rules for Toads {
     fn number(&self) -> u8 {
         4
     }
+
+    fn lawful(&self) {}
 }
 
 /// The board of a text: one row of toads, frogs and empty cells. Where it is refused, it is for the first of the causes

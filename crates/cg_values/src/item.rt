@@ -35,6 +35,8 @@ fn made_item<B: BoardForms, S: CellStore<GameFacts<B>>, R: Rules>(
     requires options { AreOptions (work_state S.state work.old) (R.game rules.now) board.now options.now }
     ensures { FormGiven (work_state S.state work.old) (work_state S.state work.new) (can (raw (R.game rules.now) board.now)) 8 result }
 {
+    // Called for the proof alone: the rules are lawful.
+    rules.lawful();
     let (lefts, rights) = options.handles.as_slice().split_at(options.lefts);
     canonical(alloc, work, lefts, rights, 8)
 }

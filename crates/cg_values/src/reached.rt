@@ -52,6 +52,8 @@ pub fn value_of<B: BoardForms, S: CellStore<GameFacts<B>>, R: Rules, A: Adder>(
         → FrontsNoted (work_state S.state work.old) (work_state S.state work.new) (R.game rules.now)
         (parts_reach (R.game rules.now) start.now)) }
 {
+    // Called for the proof alone: the rules are lawful.
+    rules.lawful();
     let limit = work.limit();
     let graph = parts_within(alloc, rules, start, limit)?;
     let handles = part_values(alloc, work, rules, adder, &graph)?;

@@ -59,6 +59,8 @@ fn part_value<B: BoardForms, S: CellStore<GameFacts<B>>, R: Rules, A: Adder>(
         (part_items work.old.limit (R.game rules.now) part.entry.board.now) result }
     ensures spare { start ≤ (work_state S.state work.new).spare }
 {
+    // Called for the proof alone: the rules are lawful.
+    rules.lawful();
     let mut places = part.places;
     let mut options = SmallVec::with_capacity(alloc, part.counts.len())?;
     for count in part.counts {

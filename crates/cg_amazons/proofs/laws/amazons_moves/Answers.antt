@@ -1,7 +1,7 @@
 use Rattle.std.proofs.Common.{length}
 use Rattle.cg_moves.proofs.RisingLemmas.{rising-rises}
 use Rattle.cg_amazons.specs.Amazons.{queen, moves_below}
-use Rattle.cg_amazons.specs.AmazonsMoves.{move_is, move_has}
+use Rattle.cg_amazons.proofs.AmazonsLaw.{move_is, move_has}
 use Rattle.cg_amazons.proofs.laws.amazons_moves.Goals as goal
 
 pub returns-clause-moves : goal.returns-clause-moves

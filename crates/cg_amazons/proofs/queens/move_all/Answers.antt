@@ -1,5 +1,5 @@
 use Rattle.std.proofs.Common.{length, arith}
-use Rattle.cg_amazons.specs.AmazonsMoves.{IsQueenMove}
+use Rattle.cg_amazons.specs.MoveParts.{IsQueenMove}
 use Rattle.cg_amazons.proofs.QueenMoves.{all_queens_taken}
 use Rattle.cg_amazons.proofs.Taken.{takes_all, takes_next}
 use Rattle.cg_amazons.proofs.queens.move_all.Goals as goal

@@ -1,4 +1,4 @@
-use Rattle.cg_amazons.specs.AmazonsMoves.{IsQueenMove}
+use Rattle.cg_amazons.specs.MoveParts.{IsQueenMove}
 use Rattle.cg_amazons.specs.Taking.{AnyMarked, Takes}
 use Rattle.cg_amazons.proofs.queens.move_all.Given as goal
 

@@ -1,6 +1,6 @@
 use Rattle.std.proofs.Common.{◌*◌, ◌∙◌}
 use Rattle.cg_amazons.specs.Amazons.{with_queen}
-use Rattle.cg_amazons.specs.AmazonsMoves.{queen_long}
+use Rattle.cg_amazons.proofs.AmazonsLaw.{queen_long}
 use Rattle.cg_amazons.proofs.QueenMoves.{free_moved, shots_taken}
 use Rattle.cg_amazons.proofs.Taken.{takes_like}
 use Rattle.cg_amazons.proofs.queens.move_and_shoot.Goals as goal

@@ -1,5 +1,5 @@
 use Rattle.std.proofs.Common.{arith}
-use Rattle.cg_amazons.specs.AmazonsMoves.{IsQueenMove}
+use Rattle.cg_amazons.specs.MoveParts.{IsQueenMove}
 use Rattle.cg_amazons.proofs.Taken.{takes_if}
 use Rattle.cg_amazons.proofs.queens.move_from.Goals as goal
 

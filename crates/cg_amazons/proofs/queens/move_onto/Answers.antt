@@ -1,6 +1,6 @@
 use Rattle.std.proofs.Common.{arith}
 use Rattle.cg_amazons.specs.Amazons.{with_queen}
-use Rattle.cg_amazons.specs.AmazonsMoves.{IsShot}
+use Rattle.cg_amazons.specs.MoveParts.{IsShot}
 use Rattle.cg_amazons.proofs.Taken.{takes_if}
 use Rattle.cg_amazons.proofs.queens.move_onto.Goals as goal
 

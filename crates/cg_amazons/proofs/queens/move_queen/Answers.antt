@@ -1,6 +1,6 @@
 use Rattle.std.proofs.Common.{length, arith}
 use Rattle.cg_amazons.specs.Amazons.{with_queen}
-use Rattle.cg_amazons.specs.AmazonsMoves.{IsShot}
+use Rattle.cg_amazons.specs.MoveParts.{IsShot}
 use Rattle.cg_amazons.proofs.QueenMoves.{queen_taken}
 use Rattle.cg_amazons.proofs.Taken.{takes_all, takes_next}
 use Rattle.cg_amazons.proofs.queens.move_queen.Goals as goal

@@ -1,5 +1,5 @@
 use Rattle.cg_amazons.specs.Amazons.{with_queen}
-use Rattle.cg_amazons.specs.AmazonsMoves.{IsShot}
+use Rattle.cg_amazons.specs.MoveParts.{IsShot}
 use Rattle.cg_amazons.specs.Taking.{AnyMarked, Takes}
 use Rattle.cg_amazons.proofs.queens.move_queen.Given as goal
 

@@ -1,5 +1,5 @@
-use Rattle.cg_graph.specs.ColouringLaw.{colouring_lawful}
-use Rattle.cg_graph.specs.HackenbushLaw.{hackenbush_lawful}
+use Rattle.cg_graph.proofs.ColouringLaw.{colouring_lawful}
+use Rattle.cg_graph.proofs.HackenbushLaw.{hackenbush_lawful}
 use Rattle.cg_graph.proofs.laws.lawful.Goals as goal
 
 pub returns-clause-hackenbush : goal.returns-clause-hackenbush

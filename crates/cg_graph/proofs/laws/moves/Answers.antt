@@ -4,7 +4,7 @@ use Rattle.cg_moves.specs.Rising.{counted}
 use Rattle.cg_moves.proofs.RisingLemmas.{rising-rises}
 use Rattle.cg_graph.specs.Colouring.{colourings_at}
 use Rattle.cg_graph.specs.Hackenbush.{cuts_at}
-use Rattle.cg_graph.specs.HackenbushLaw.{is_cut}
+use Rattle.cg_graph.proofs.HackenbushLaw.{is_cut}
 use Rattle.cg_graph.proofs.ColouringMoves.{colouring_is, is_colouring_so}
 use Rattle.cg_graph.proofs.RedBlue.{cut_is}
 use Rattle.cg_graph.proofs.laws.moves.Goals as goal

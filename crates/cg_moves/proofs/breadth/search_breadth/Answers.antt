@@ -6,7 +6,7 @@ use Rattle.cg_moves.proofs.breadth.search_breadth.Goals as goal
 
 pub returns-in_err-find : goal.returns-in_err-find
 returns-in_err-find g c =
-    let lawful = walk-lawful (g.R.Rules.game c.args.rules.now) (g.met.R.Rules.lawful c.args.rules.now) c.args.edges g.walk
+    let lawful = walk-lawful (g.R.Rules.game c.args.rules.now) c.lawful.ensures c.args.edges g.walk
     c.requires.1.0 c.requires.1.1.0 in record {
       refused = λ e. start-refused g.walk lawful c.requires.1.1.1.0 c.args.start.now c.requires.1.1.1.1.1 c.new-found.result
           c.new-found.ensures c.in_ok-copy.field-0 c.in_ok-copy.ensures c.args.limit (c.in_err-find.ensures.refused (passed_on
@@ -15,7 +15,7 @@ returns-in_err-find g c =
 
 pub loop-number-init : goal.loop-number-init
 loop-number-init g c =
-    let lawful = walk-lawful (g.R.Rules.game c.args.rules.now) (g.met.R.Rules.lawful c.args.rules.now) c.args.edges g.walk
+    let lawful = walk-lawful (g.R.Rules.game c.args.rules.now) c.lawful.ensures c.args.edges g.walk
     c.requires.1.0 c.requires.1.1.0 in record {
       found = start-found g.walk lawful c.requires.1.1.1.0 c.args.start.now c.requires.1.1.1.1.1 c.new-found.result
           c.new-found.ensures c.in_ok-copy.field-0 c.in_ok-copy.ensures c.find.new.self c.in_ok-find.ensures.boards;
@@ -34,7 +34,7 @@ expand-requires g c κs inside = (
 
 pub find_all-requires : goal.find_all-requires
 find_all-requires g c = (
-  walk-lawful (g.R.Rules.game c.args.rules.now) (g.met.R.Rules.lawful c.args.rules.now) c.args.edges g.walk c.requires.1.0
+  walk-lawful (g.R.Rules.game c.args.rules.now) c.lawful.ensures c.args.edges g.walk c.requires.1.0
       c.requires.1.1.0,
   (
     c.requires.1.1.1.0,

@@ -16,7 +16,7 @@ enter_pieces-requires-clause-same_symbols g c =
     let r = g.R.Rules.game c.args.rules.now in
     let cuts = subst (MayGo r) c.in-Pieces.is c.requires.may in
     same_symbols-same c.args.found.now (pieces r c.args.board.now) c.args.board.now c.requires.same_symbols
-    (λ q m. (((g.met.R.Rules.lawful c.args.rules.now).cut cuts).each).symbols c.args.board.now q c.requires.has m)
+    (λ q m. ((c.lawful.ensures.cut cuts).each).symbols c.args.board.now q c.requires.has m)
 
 pub returns-in_ok-push-in-Some-clause-counts : goal.returns-in_ok-push-in-Some-clause-counts
 returns-in_ok-push-in-Some-clause-counts g c =

@@ -2,4 +2,4 @@ use Rattle.cg_moves.proofs.laws.l9.Goals as goal
 
 pub returns : goal.returns
 returns g c =
-    ((g.met.R.Rules.lawful c.args.rules.now).cut c.requires.cuts).sum c.args.board.now c.requires.has
+    (c.lawful.ensures.cut c.requires.cuts).sum c.args.board.now c.requires.has

@@ -11,7 +11,7 @@ open_all-requires g c κs within = (
     (
       tt,
       (
-        one_start (g.R.Rules.game c.args.rules.now) (g.met.R.Rules.lawful c.args.rules.now)
+        one_start (g.R.Rules.game c.args.rules.now) c.lawful.ensures
             c.args.start.now c.in_ok-starts.starts.items c.requires c.in_ok-starts.ensures,
         λ p m. refl,
       ),
@@ -22,7 +22,7 @@ open_all-requires g c κs within = (
 pub returns : goal.returns
 returns g c =
     let reach = reach-along c.open_all.result c.args.limit _ _ _ _ (reach-kept_all (g.R.Rules.game c.args.rules.now)
-    (g.met.R.Rules.lawful c.args.rules.now) c.args.start.now c.in_ok-starts.starts.items c.in_ok-starts.ensures)
+    c.lawful.ensures c.args.start.now c.in_ok-starts.starts.items c.in_ok-starts.ensures)
     c.in_ok-starts.ensures c.open_all.ensures.boards c.open_all.ensures.starts c.open_all.ensures.within
     c.open_all.ensures.refused in
     record {

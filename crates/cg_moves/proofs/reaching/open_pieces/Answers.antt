@@ -9,7 +9,7 @@ use Rattle.cg_moves.proofs.reaching.open_pieces.Goals as goal
 pub open_all-requires : goal.open_all-requires
 open_all-requires g c κs within =
     let r = g.R.Rules.game c.args.rules.now in
-    let lawful = g.met.R.Rules.lawful c.args.rules.now in (
+    let lawful = c.lawful.ensures in (
       within,
       (
         refl,
@@ -27,7 +27,7 @@ open_all-requires g c κs within =
 
 pub returns : goal.returns
 returns g c =
-    let lawful = g.met.R.Rules.lawful c.args.rules.now in
+    let lawful = c.lawful.ensures in
     let reach = reach-along c.open_all.result c.args.limit _ _ _ _ (piece_reach-all (g.R.Rules.game c.args.rules.now) lawful
     (lawful.cut c.requires.cuts).each c.args.start.now c.in_ok-starts.starts.items c.requires.has c.in_ok-starts.ensures)
     c.in_ok-starts.ensures c.open_all.ensures.boards c.open_all.ensures.starts c.open_all.ensures.within

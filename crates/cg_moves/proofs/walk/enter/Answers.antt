@@ -5,12 +5,12 @@ use Rattle.cg_moves.proofs.walk.enter.Goals as goal
 
 pub known-requires : goal.known-requires
 known-requires g c =
-    own-same_symbols _ _ _ _ (walk-follow (g.R.Rules.game c.args.rules.now) (g.met.R.Rules.lawful c.args.rules.now) c.args.edges g.walk
+    own-same_symbols _ _ _ _ (walk-follow (g.R.Rules.game c.args.rules.now) c.lawful.ensures c.args.edges g.walk
     c.args.visited.now c.args.tasks.now.items c.args.board c.requires.1)
 
 pub returns-in-Some : goal.returns-in-Some
 returns-in-Some g c =
-    let lawful = walk-lawful (g.R.Rules.game c.args.rules.now) (g.met.R.Rules.lawful c.args.rules.now) c.args.edges g.walk
+    let lawful = walk-lawful (g.R.Rules.game c.args.rules.now) c.lawful.ensures c.args.edges g.walk
     c.requires.1.0 c.requires.1.1.0 in
     record {
       boards = refl;
@@ -21,20 +21,20 @@ returns-in-Some g c =
 
 pub list_followers-requires : goal.list_followers-requires
 list_followers-requires g c =
-    (walk-follow (g.R.Rules.game c.args.rules.now) (g.met.R.Rules.lawful c.args.rules.now) c.args.edges g.walk
+    (walk-follow (g.R.Rules.game c.args.rules.now) c.lawful.ensures c.args.edges g.walk
     c.args.visited.now c.args.tasks.now.items c.args.board c.requires.1).has
 
 pub enter_next-requires : goal.enter_next-requires
 enter_next-requires g c =
-    let next = can-enter (g.R.Rules.game c.args.rules.now) (g.met.R.Rules.lawful c.args.rules.now) c.args.edges _ _
-    (walk-follow (g.R.Rules.game c.args.rules.now) (g.met.R.Rules.lawful c.args.rules.now) c.args.edges g.walk
+    let next = can-enter (g.R.Rules.game c.args.rules.now) c.lawful.ensures c.args.edges _ _
+    (walk-follow (g.R.Rules.game c.args.rules.now) c.lawful.ensures c.args.edges g.walk
     c.args.visited.now c.args.tasks.now.items c.args.board c.requires.1) _ _
     c.in_ok-list_followers.ensures.lefts c.in_ok-list_followers.ensures.rights in
     record { may = c.requires.1.1.0; enter = next }
 
 pub returns : goal.returns
 returns g c =
-    let done = is-entered (g.R.Rules.game c.args.rules.now) (g.met.R.Rules.lawful c.args.rules.now) c.args.edges g.walk
+    let done = is-entered (g.R.Rules.game c.args.rules.now) c.lawful.ensures c.args.edges g.walk
     c.args.visited.now c.args.tasks.now.items c.args.board c.requires.1 c.in_ok-list_followers.ensures.lefts
     c.in_ok-list_followers.ensures.rights (omega arith) (omega arith) (omega arith) (omega arith) (omega arith)
     c.in_default.ensures.new c.in_ok-push-2.ensures c.in_ok-enter_next.ensures.tasks c.in_ok-enter_next.ensures.counts

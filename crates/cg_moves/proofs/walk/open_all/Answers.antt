@@ -11,7 +11,7 @@ use Rattle.cg_moves.proofs.walk.open_all.Goals as goal
 pub search_breadth-requires : goal.search_breadth-requires
 search_breadth-requires g c κs inside = (
   inside,
-  begins (g.R.Rules.game c.args.rules.now) (g.met.R.Rules.lawful c.args.rules.now) c.args.edges g.walk c.args.starts.items c.requires.1
+  begins (g.R.Rules.game c.args.rules.now) c.lawful.ensures c.args.edges g.walk c.args.starts.items c.requires.1
       (carry c.in-Some.start.now c.deref.result.now g.walk.starts (c.deref.ensures.value ∙ sym (ap (λ z. z.starts) c.requires.1.0))
       (first-in c.deref.result.now c.in-Some.start.now c.in-Some.ensures.value)),
 )
@@ -36,7 +36,7 @@ loop-task-init g c =
 pub step-requires : goal.step-requires
 step-requires g c κs inside = (
   inside,
-  begins (g.R.Rules.game c.args.rules.now) (g.met.R.Rules.lawful c.args.rules.now) c.args.edges g.walk c.args.starts.items
+  begins (g.R.Rules.game c.args.rules.now) c.lawful.ensures c.args.edges g.walk c.args.starts.items
       c.requires.1 (
         subst (λ (z : List Task). IsWalking g.walk c.loop-task.visited z) c.in-Some-pop.ensures.items c.loop-task.invariant.walking,
         c.loop-task.invariant.within,

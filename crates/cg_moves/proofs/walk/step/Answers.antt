@@ -9,14 +9,14 @@ use Rattle.cg_moves.proofs.walk.step.Goals as goal
 
 pub note-requires : goal.note-requires
 note-requires g c = (
-  walk-lawful (g.R.Rules.game c.args.rules.now) (g.met.R.Rules.lawful c.args.rules.now) c.args.edges g.walk c.requires.1.0
+  walk-lawful (g.R.Rules.game c.args.rules.now) c.lawful.ensures c.args.edges g.walk c.requires.1.0
       c.requires.1.1.0,
   rw c.deref.ensures.value (rw (← c.in-Known.is) c.requires.1.1.1.1.1.0),
 )
 
 pub leave-requires : goal.leave-requires
 leave-requires g c = (
-  walk-lawful (g.R.Rules.game c.args.rules.now) (g.met.R.Rules.lawful c.args.rules.now) c.args.edges g.walk c.requires.1.0
+  walk-lawful (g.R.Rules.game c.args.rules.now) c.lawful.ensures c.args.edges g.walk c.requires.1.0
       c.requires.1.1.0,
   (
     c.requires.1.1.1.0,

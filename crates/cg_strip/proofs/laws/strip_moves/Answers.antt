@@ -1,8 +1,8 @@
 use Rattle.std.specs.List.{flat_map}
 use Rattle.cg_moves.proofs.RisingLemmas.{rising-rises}
 use Rattle.cg_strip.specs.Placing.{placements}
-use Rattle.cg_strip.specs.PlacingLemmas.{move_is, move_has}
-use Rattle.cg_strip.specs.StripLaws.{rule_of}
+use Rattle.cg_strip.proofs.PlacingLemmas.{move_is, move_has}
+use Rattle.cg_strip.proofs.StripLaw.{rule_of}
 use Rattle.cg_strip.proofs.laws.strip_moves.Goals as goal
 
 pub returns-clause-placements : goal.returns-clause-placements

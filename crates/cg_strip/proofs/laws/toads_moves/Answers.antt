@@ -1,6 +1,6 @@
 use Rattle.cg_moves.proofs.RisingLemmas.{rising-rises}
 use Rattle.cg_strip.specs.Toads.{hops}
-use Rattle.cg_strip.specs.ToadsLaws.{hop_is, hop_has}
+use Rattle.cg_strip.proofs.ToadsLaw.{hop_is, hop_has}
 use Rattle.cg_strip.proofs.laws.toads_moves.Goals as goal
 
 pub returns-clause-hops : goal.returns-clause-hops

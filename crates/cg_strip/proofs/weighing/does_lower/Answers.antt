@@ -1,5 +1,5 @@
 use Rattle.std.proofs.Common.{◌-◌, sym, ◌∙◌}
-use Rattle.cg_strip.specs.LoweringSteps.{cell_passed}
+use Rattle.cg_strip.proofs.LoweringSteps.{cell_passed}
 use Rattle.cg_strip.proofs.weighing.does_lower.Goals as goal
 
 pub loop-left-preserved : goal.loop-left-preserved

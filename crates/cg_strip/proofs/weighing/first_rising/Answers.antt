@@ -1,6 +1,6 @@
 use Rattle.std.proofs.Common.{sym, ap, ◌∙◌, arith}
 use Rattle.cg_strip.specs.Weighing.{does_lower}
-use Rattle.cg_strip.specs.LoweringSteps.{rule_found, rule_passed, rules_end}
+use Rattle.cg_strip.proofs.LoweringSteps.{rule_found, rule_passed, rules_end}
 use Rattle.cg_strip.proofs.weighing.first_rising.Goals as goal
 
 pub returns-then-not-does_lower : goal.returns-then-not-does_lower

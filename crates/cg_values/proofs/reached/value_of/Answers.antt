@@ -27,7 +27,7 @@ returns-in_err-graph-clause-noted_before g c =
 
 pub part_values-requires-clause-has : goal.part_values-requires-clause-has
 part_values-requires-clause-has g c =
-    all-has _ (g.met.R.Rules.lawful c.args.rules.now) _ c.requires.has _ c.in_ok-graph.ensures.graph.boards
+    all-has _ c.lawful.ensures _ c.requires.has _ c.in_ok-graph.ensures.graph.boards
 
 pub returns-in_err-handles-clause-gives : goal.returns-in_err-handles-clause-gives
 returns-in_err-handles-clause-gives g c =
@@ -61,7 +61,7 @@ returns-clause-gives g c =
     c.in_ok-handles.ensures.values c.deref.ensures.value c.deref-2.ensures.value in
     board_gives _ _ _ _ _ _ c.limit-limit.ensures c.in_ok-graph.ensures.graph.boards c.in_ok-graph.ensures.within _
     c.part_values.ensures.made c.part_values.ensures.more _ _ c.in_ok-handles.was _
-    (parts_give _ _ _ (g.met.R.Rules.lawful c.args.rules.now) _ c.requires.has _ _ own _ c.joined.ensures)
+    (parts_give _ _ _ c.lawful.ensures _ c.requires.has _ _ own _ c.joined.ensures)
 
 pub returns-clause-noted : goal.returns-clause-noted
 returns-clause-noted g c =
@@ -69,7 +69,7 @@ returns-clause-noted g c =
     let W = work_state g.S.CellStore.state in
     let own = starts_held (W c.part_values.new.work) _ _ _ _ _ _ c.in_ok-graph.ensures.graph c.in_ok-handles.ensures.values
     c.deref.ensures.value c.deref-2.ensures.value in
-    let last = parts_give _ _ _ (g.met.R.Rules.lawful c.args.rules.now) _ c.requires.has _ _ own _ c.joined.ensures in
+    let last = parts_give _ _ _ c.lawful.ensures _ c.requires.has _ _ own _ c.joined.ensures in
     let P : List Grid → Type 0 = λ z. AreNoted (W c.joined.new.work) r z in
     on_ok_any c.joined.result (subst P c.in_ok-graph.ensures.graph.boards
     (noted-later (W c.part_values.new.work) (W c.joined.new.work) r last.made.keeps.known _ last.made.keeps.noted
@@ -81,7 +81,7 @@ returns-clause-noted_before g c =
     let W = work_state g.S.CellStore.state in
     let own = starts_held (W c.part_values.new.work) _ _ _ _ _ _ c.in_ok-graph.ensures.graph c.in_ok-handles.ensures.values
     c.deref.ensures.value c.deref-2.ensures.value in
-    let last = parts_give _ _ _ (g.met.R.Rules.lawful c.args.rules.now) _ c.requires.has _ _ own _ c.joined.ensures in
+    let last = parts_give _ _ _ c.lawful.ensures _ c.requires.has _ _ own _ c.joined.ensures in
     let P : List Grid → Type 0 = λ z. FrontsNoted (W c.args.work.now) (W c.joined.new.work) r z in
     if_err_any c.joined.result _ (λ e other within. subst P c.in_ok-graph.ensures.graph.boards
     (fronts-all (W c.args.work.now) (W c.joined.new.work) r _

@@ -16,8 +16,8 @@ use Rattle.cg_strip.specs.Weighing.{row_weight, do_all_lower}
 use Rattle.cg_strip.specs.StripGame.{is_even, is_strip_board, strip_game}
 use Rattle.cg_strip.specs.declared.weight.Weight.{Weight}
 use Rattle.cg_strip.specs.declared.rule.Rule.{Rule}
-use Rattle.cg_strip.specs.PlacingLemmas.{move_is}
-use Rattle.cg_strip.specs.WeighingLemmas.{lower_is, one_lowers, room_behind}
+use Rattle.cg_strip.proofs.PlacingLemmas.{move_is}
+use Rattle.cg_strip.proofs.WeighingLemmas.{lower_is, one_lowers, room_behind}
 
 -- ---- boards of the game
 

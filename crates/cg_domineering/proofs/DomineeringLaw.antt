@@ -5,7 +5,7 @@ use Rattle.std.proofs.lemmas.Bool.{and_parts}
 use Rattle.cg_moves.specs.Lawful.{AreMoves, IsLawful}
 use Rattle.cg_moves.proofs.ForGames.{board-stays, listed-where, set-least, set-lowers}
 use Rattle.cg_pieces.proofs.NeighbourCuts.{neighbours-cut}
-use Rattle.cg_domineering.specs.Cuts.{domineering_cuts, dominoes-are}
+use Rattle.cg_domineering.proofs.Cuts.{domineering_cuts, dominoes-are}
 use Rattle.cg_domineering.specs.Moves.{domineering, dominoes, empty, filled, fits, has_other, is_empty, other_cell, with_domino}
 
 -- a domino fills two cells, of which the first was empty

@@ -17,7 +17,7 @@ use Rattle.cg_pieces.proofs.Lines.{below-is, beside-inside, beside-is, before-be
 use Rattle.cg_pieces.proofs.NeighbourSets.{piece-cell-below}
 use Rattle.cg_clobber.specs.declared.way.Way.{Way}
 use Rattle.cg_clobber.specs.declared.way.Way.TheVariants.{Up, Down, Back, Forth}
-use Rattle.cg_clobber.specs.Capture.{is_capture}
+use Rattle.cg_clobber.proofs.Capture.{is_capture}
 use Rattle.cg_clobber.specs.Moves.{captures, clobber, has_stone, is_stone, moves_at, moves_onto, moves_that_way, next_cell, other, own, stones, with_capture}
 
 pub stones-are : IsNeighbours stones

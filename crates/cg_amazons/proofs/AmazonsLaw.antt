@@ -16,7 +16,8 @@ use Rattle.cg_moves.proofs.Members.{in-flat_map, in_flat_mapped, in-map, in_mapp
 use Rattle.cg_moves.proofs.RisingLemmas.{rising-in, in-rising}
 use Rattle.cg_amazons.specs.Amazons.{empty, blocked, queen, Reaches, with_queen, IsAmazonsMove, line, ways, shots_that_way}
 use Rattle.cg_amazons.specs.Amazons.{shots, moves_that_way, moves_from, moves_below, amazons_moves, empty_cells, amazons}
-use Rattle.cg_amazons.specs.AmazonsLaws.{within, along_ends, line_is, line_has}
+use Rattle.cg_amazons.proofs.RayLaws.{within, along_ends, line_is, line_has}
+use Rattle.cg_amazons.specs.MoveParts.{IsMoveBelow, IsQueenMove, IsShot}
 use Rattle.cg_amazons.specs.declared.way.Way.{Way}
 use Rattle.cg_amazons.specs.declared.way.Way.TheVariants.{UpBack, Up, UpForth, Back, Forth, DownBack, Down, DownForth}
 
@@ -31,11 +32,6 @@ every_way Down = inr (inr (inr (inr (inr (inr (inl refl))))))
 every_way DownForth = inr (inr (inr (inr (inr (inr (inr (inl refl)))))))
 
 -- ---- shots
-
-pub record IsShot (columns : ℕ) (cells : List ℕ) (from : ℕ) (after : List ℕ) : Type 0 where
-  pub target : ℕ
-  pub shot : Reaches columns cells from target
-  pub written : after ≡ slice_set cells target blocked
 
 shot_is : (columns : ℕ) (cells : List ℕ) (from : ℕ) (after : List ℕ) → In after (shots columns cells from) → IsShot columns cells from after
 shot_is columns cells from after m =
@@ -54,11 +50,6 @@ shot_has columns cells from after some here s =
     s.target some here r.along)))
 
 -- ---- moves of one queen
-
-pub record IsQueenMove (columns q : ℕ) (cells : List ℕ) (from : ℕ) (after : List ℕ) : Type 0 where
-  pub to : ℕ
-  pub moved : Reaches columns cells from to
-  pub shot : IsShot columns (with_queen cells from to q) to after
 
 abbrev queen_shots : ℕ → ℕ → List ℕ → ℕ → ℕ → List (List ℕ)
 queen_shots columns q cells from to = shots columns (with_queen cells from to q) to
@@ -96,12 +87,6 @@ le_or_lt a b = by_test (leb a b) refl
     by_test : (t : Bool) → leb a b ≡ t → (a ≤ b) ⊎ (b < a)
     by_test true h = inl (leb-true a b h)
     by_test false h = inr (leb-false a b h)
-
-pub record IsMoveBelow (columns q : ℕ) (cells : List ℕ) (most : ℕ) (after : List ℕ) : Type 0 where
-  pub from : ℕ
-  pub below : from < most
-  pub own : slice_index cells from ≡ q
-  pub moves : IsQueenMove columns q cells from after
 
 pub below_is : (columns q : ℕ) (cells : List ℕ) (most : ℕ) (after : List ℕ) → In after (moves_below columns q cells most) → IsMoveBelow columns q cells most
     after

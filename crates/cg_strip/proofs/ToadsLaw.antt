@@ -9,8 +9,8 @@ use Rattle.cg_form.proofs.Firsts.{in-append, in-append_left, in-append_right}
 use Rattle.cg_moves.proofs.RisingLemmas.{rising-in, in-rising}
 use Rattle.cg_strip.specs.Placing.{IsPlacedAt, all_placed}
 use Rattle.cg_strip.specs.Weighing.{row_weight, is_lighter}
-use Rattle.cg_strip.specs.PlacingLemmas.{below_is, below_has, placed_within}
-use Rattle.cg_strip.specs.WeighingLemmas.{lighter_lowers, room_behind}
+use Rattle.cg_strip.proofs.PlacingLemmas.{below_is, below_has, placed_within}
+use Rattle.cg_strip.proofs.WeighingLemmas.{lighter_lowers, room_behind}
 use Rattle.cg_strip.specs.Toads.{Become, IsToadsMove, hops, toads_moves, toad_weights, toads_game}
 use Rattle.cg_strip.specs.declared.rule.Rule.{Rule}
 

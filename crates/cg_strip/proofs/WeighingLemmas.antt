@@ -9,7 +9,7 @@ use Rattle.cg_strip.specs.Placing.{IsPlacedAt}
 use Rattle.cg_strip.specs.Rulebook.{Rulebook}
 use Rattle.cg_strip.specs.Weighing.{symbol_weight, cells_weight, row_weight, LowersAt, Lowers, IsFirstRising}
 use Rattle.cg_strip.specs.Weighing.{is_lighter, lowers_from, does_lower, do_all_lower, first_rising}
-use Rattle.cg_strip.specs.LoweringSteps.{fits_lower, long_lower}
+use Rattle.cg_strip.proofs.LoweringSteps.{fits_lower, long_lower}
 use Rattle.cg_strip.specs.declared.weight.Weight.{Weight}
 use Rattle.cg_strip.specs.declared.rule.Rule.{Rule}
 

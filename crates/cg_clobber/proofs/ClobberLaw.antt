@@ -7,8 +7,8 @@ use Rattle.cg_moves.specs.declared.player.Player.TheVariants.{Left, Right}
 use Rattle.cg_moves.specs.Lawful.{AreMoves, IsLawful}
 use Rattle.cg_moves.proofs.ForGames.{board-stays, one_if, set-least, set-lowers}
 use Rattle.cg_pieces.proofs.NeighbourCuts.{neighbours-cut}
-use Rattle.cg_clobber.specs.Capture.{is_capture}
-use Rattle.cg_clobber.specs.Cuts.{clobber_cuts, other-is, own-is, stones-are}
+use Rattle.cg_clobber.proofs.Capture.{is_capture}
+use Rattle.cg_clobber.proofs.Cuts.{clobber_cuts, other-is, own-is, stones-are}
 use Rattle.cg_clobber.specs.Moves.{clobber, empty, has_stone, is_stone, other, own, stones}
 
 own-other : (player : Player) → own player ≡ other player → ⊥
