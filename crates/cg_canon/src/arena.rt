@@ -13,7 +13,7 @@ ghost use Rattle.cg_canon.specs.Works.{work_state};
 
 use crate::indexing::index_of_handle;
 use crate::work::Work;
-use cg_arena::{Read, Summary};
+use cg_arena::{Arena, Read, Summary};
 use cg_cells::CellStore;
 use cg_nodes::{BoardForms, GameFacts, Handle};
 use std::alloc::{AllocError, Global};
@@ -37,6 +37,14 @@ impl<'a, B: BoardForms, S: CellStore<GameFacts<B>>> Work<'a, B, S> {
         ensures { StandsFor (work_state S.state self.now) result (game_of self.now.arena index) }
     {
         self.cache.memo.interner.handle(index)
+    }
+
+    /// The games that the work has met.
+    #[inline(always)]
+    pub fn arena(&self) -> &Arena
+        ensures { result.now ≡ self.now.arena }
+    {
+        &self.cache.memo.interner.arena
     }
 
     /// The game at the index: a number, or the indexes of the Left and of the Right options of another game.

@@ -41,7 +41,7 @@ mod written;
 
 pub use again::{charge_again, keep_sum, sum_again};
 pub use cache::Cache;
-pub use cg_arena::{FirstTerm, Read, Summary};
+pub use cg_arena::{Arena, FirstTerm, Read, Summary};
 pub use equality::equal;
 pub use fault::ValueFault;
 pub use forms::{canonical, canonical_item};
