@@ -13,7 +13,7 @@ use crate::pictures::{Part, part_text, stops_text};
 use cg_canon::{Work, le};
 use cg_cells::CellStore;
 use cg_cert::{CertFault, check, prove};
-use cg_names::name;
+use cg_names::named;
 use cg_nodes::{BoardForms, GameFacts, Handle};
 use cg_thermo::{Outcome, ThermoFault, outcome, stops, thermograph};
 use std::alloc::{AllocError, Global};
@@ -52,7 +52,7 @@ fn tell_value<B: BoardForms, S: CellStore<GameFacts<B>>>(
     ensures told { IfOk result (Tells (game_at (work_state S.state work.old) a) a Asked.Value) }
     ensures spends { Spends 0 (work_state S.state work.old) (work_state S.state work.new) }
 {
-    let text = name(alloc, work, a)?;
+    let text = named(alloc, work, a)?;
     Ok(answer_of(text, a))
 }
 

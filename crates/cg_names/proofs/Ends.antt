@@ -1,8 +1,8 @@
 -- The games with a named form that have none with a nimber, by the lists of their options.
 use Rattle.std.proofs.Common.{◌≡◌, refl, ap, sym, ◌∙◌, ℕ, zero, suc, arith, inl, inr, ◌⊎◌, List, [], ◌∷◌, Bool, true, false, not, Option, Some, None}
 use Rattle.cg_dyadic.specs.Exact.{number_negative}
-use Rattle.cg_dyadic.specs.Number.{Number, NumberLe, number_le}
-use Rattle.cg_dyadic.proofs.Truth.{not_true, true_not}
+use Rattle.cg_dyadic.specs.Number.{Number, number_le}
+use Rattle.cg_dyadic.proofs.Truth.{not_true}
 use Rattle.cg_form.specs.Game.{Game, node, number}
 use Rattle.cg_form.specs.Shifted.{shifted}
 use Rattle.cg_nodes.specs.Games.{IsNode}
@@ -67,20 +67,17 @@ no_ends ls rs i l r = none_from (node ls rs) i by
 
 -- ---- one option on one side
 
-pub starred-found : (down : Bool) (own : List Game) (a b c k : Game) (x : Number) → own ≡ a ∷ (b ∷ []) → c ≡ k
-    → AreUpStar a b c x → Some (Arrows down true x 1) ≡ named_form_of (mirrored_if down own (k ∷ []))
-starred-found down own a b c k x e d u =
-    sym (named_form-found (mirrored_if down own (k ∷ [])) (Arrows down true x 1) (record {
+pub starred-found : (down : Bool) (own : List Game) (last : Game) (x : Number) → AreUpStar own last x
+    → Some (Arrows down true x 1) ≡ named_form_of (mirrored_if down own (last ∷ []))
+starred-found down own last x u =
+    sym (named_form-found (mirrored_if down own (last ∷ [])) (Arrows down true x 1) (record {
       proper = some_is 1 (omega arith);
-      form = ap (λ z. mirrored_if down z (k ∷ [])) (e ∙ ap (λ z. z ∷ (b ∷ [])) u.first
-          ∙ ap (λ z. number x ∷ (z ∷ [])) u.second)
-          ∙ ap (λ z. mirrored_if down (number x ∷ (star_above x ∷ [])) (z ∷ [])) (sym d ∙ u.last)
-          ∙ sym (both_is down x);
+      form = ap (λ z. mirrored_if down z (last ∷ [])) u.own
+          ∙ ap (λ z. mirrored_if down (number x ∷ (star_above x ∷ [])) (z ∷ [])) u.last ∙ sym (both_is down x);
     }))
 
 pub starred-none : (down : Bool) (own : List Game) (last : Game) → IsStar (mirrored_if down own (last ∷ [])) None
-    → ((a : Game) → ¬ (own ≡ a ∷ []))
-    → ((x : Number) → own ≡ number x ∷ (pair_form x x ∷ []) → ¬ (last ≡ number x))
+    → ((a : Game) → ¬ (own ≡ a ∷ [])) → ((x : Number) → ¬ AreUpStar own last x)
     → None ≡ named_form_of (mirrored_if down own (last ∷ []))
 starred-none down own last i l n = none_from (mirrored_if down own (last ∷ [])) i by
   where
@@ -92,26 +89,9 @@ starred-none down own last i l n = none_from (mirrored_if down own (last ∷ [])
     by (tiny d x p e) = one d zero_form (tiny_part d x) e
     by (step d t x m j e) = one d (number x) (shifted x (ups_of d (not t) m)) e
     by (both d x e) = elim (sides down d own (last ∷ []) (number x ∷ (star_above x ∷ [])) (number x ∷ []) e) [
-      | inl p ↦ n x p.1 (one_same last (number x) p.2)
+      | inl p ↦ n x (record { own = p.1; last = one_same last (number x) p.2 })
       | inr p ↦ l (number x) p.0
     ]
-
--- another list than that of two options
-pub starred-other : (down : Bool) (own : List Game) (last : Game) → IsStar (mirrored_if down own (last ∷ [])) None
-    → ((a : Game) → ¬ (own ≡ a ∷ [])) → ((a b : Game) → ¬ (own ≡ a ∷ (b ∷ [])))
-    → None ≡ named_form_of (mirrored_if down own (last ∷ []))
-starred-other down own last i l n = starred-none down own last i l (λ x e f. n (number x) (pair_form x x) e)
-
-two_same : (a b c d : Game) → a ∷ (b ∷ []) ≡ c ∷ (d ∷ []) → (a ≡ c) × (b ≡ d)
-two_same a b c d e = (cc, cc)
-
--- two options that aren't x and x + *
-pub starred-apart : (down : Bool) (own : List Game) (a b c last : Game) → IsStar (mirrored_if down own (last ∷ [])) None
-    → ((a : Game) → ¬ (own ≡ a ∷ [])) → own ≡ a ∷ (b ∷ []) → c ≡ last → ((x : Number) → ¬ AreUpStar a b c x)
-    → None ≡ named_form_of (mirrored_if down own (last ∷ []))
-starred-apart down own a b c last i l e d n = starred-none down own last i l (λ x f g.
-    let (p, q) = two_same a b (number x) (pair_form x x) (sym e ∙ f) in
-    n x (record { first = p; second = q; last = d ∙ g }))
 
 -- ---- one option on each side
 

@@ -18,9 +18,9 @@ pub mod SumWords
 pub mod StarredUps
 pub mod Looks
 pub mod Ends
-pub mod Listing
+pub mod Returned
+pub mod Indexes
 pub mod Stars
-pub mod Memos
 pub mod NamedFormSteps
 pub mod Tokens
 pub mod Terms

@@ -4,9 +4,7 @@ use Rattle.std.specs.Prelude.{codes, nat_lt}
 use Rattle.std.proofs.lemmas.Bool.Decides.{nat_tests}
 use Rattle.cg_dyadic.specs.Number.{number_le}
 use Rattle.cg_dyadic.proofs.Truth.{not_true, true_not}
-use Rattle.cg_form.specs.Canonical.{IsCanonicalForm}
 use Rattle.cg_form.specs.Game.{Game, Games, more, none, number, options}
-use Rattle.cg_form.specs.Sum.{sum}
 use Rattle.cg_names.specs.Name.{AreFurther, AreNames, IsName, braces_name}
 use Rattle.cg_names.specs.Named.{nimber_form, ups_of, zero_number}
 use Rattle.cg_names.specs.Shapes.{HasForm, named_form_of}

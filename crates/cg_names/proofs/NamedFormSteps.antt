@@ -1,11 +1,8 @@
 -- The named form of a game, from what is found of its shape.
-use Rattle.std.proofs.Common.{◌≡◌, sym, ◌∙◌, [], ◌∷◌, ℕ, Option, Some, Bool}
+use Rattle.std.proofs.Common.{◌≡◌, sym, [], ◌∷◌, Option, Some, Bool}
 use Rattle.cg_dyadic.specs.Number.{Number, number_le}
 use Rattle.cg_dyadic.proofs.Truth.{true_not}
 use Rattle.cg_form.specs.Game.{Game, number}
-use Rattle.cg_cells.specs.Store.{Spends, State}
-use Rattle.cg_nodes.specs.Games.{IsList}
-use Rattle.cg_nodes.specs.Meant.{Meant}
 use Rattle.cg_names.specs.Named.{mirrored_if, zero_number}
 use Rattle.cg_names.specs.Readings.{IsStar, IsTiny}
 use Rattle.cg_names.specs.Shapes.{named_form_of}

@@ -1,5 +1,5 @@
 -- The numbers and counts of a name are in range where the numbers of the game are, and its depth is.
-use Rattle.std.proofs.Common.{◌≡◌, refl, ap, ◌∙◌, ℕ, zero, suc, ◌^◌, ◌<◌, ◌≤◌, arith, inl, inr, List, [], ◌∷◌, Bool, true, false, unsigned_abs, neg_ℤ}
+use Rattle.std.proofs.Common.{◌≡◌, ap, ◌∙◌, ℕ, zero, suc, ◌^◌, ◌<◌, ◌≤◌, arith, inl, inr, List, [], ◌∷◌, Bool, true, false, unsigned_abs, neg_ℤ}
 use Rattle.std.proofs.lemmas.Int.{ints}
 use Rattle.cg_dyadic.specs.Number.{InRange, Number, num_of}
 use Rattle.cg_form.specs.Depth.{deepest_of, depth_of}

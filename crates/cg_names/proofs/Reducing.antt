@@ -4,7 +4,6 @@ use Rattle.cg_form.specs.Canonical.{Canonical}
 use Rattle.cg_form.specs.Game.{Among, Game}
 use Rattle.cg_form.specs.Side.{AtMost, far, near}
 use Rattle.cg_form.specs.Simple.{NoNumber}
-use Rattle.cg_form.specs.Structure.{Rises}
 use Rattle.cg_form.proofs.Among.{carry, lefts-node, rights-node}
 use Rattle.cg_names.specs.Named.{mirrored_if, zero_form}
 use Rattle.cg_nimbers.proofs.Reducing.{SideReduced, canonical_node}

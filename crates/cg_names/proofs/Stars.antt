@@ -1,14 +1,11 @@
 -- Lists x, x + *, x + *2 and so on, and the games over them.
-use Rattle.std.proofs.Common.{◌≡◌, refl, ap, sym, ◌∙◌, subst, ℕ, zero, suc, ◌<◌, ◌≤◌, arith, List, [], ◌∷◌}
-use Rattle.std.proofs.Common.{◌++◌, length, take, get_or, Option, Some, None, true, false, nat_eq, eqb-true}
+use Rattle.std.proofs.Common.{◌≡◌, ap, sym, ◌∙◌, subst, ℕ, zero, suc, ◌≤◌, arith, List, [], ◌∷◌}
+use Rattle.std.proofs.Common.{◌++◌, length, Option, Some, None, false}
 use Rattle.std.proofs.lemmas.List.{nil_from_length, same_from_push}
 use Rattle.cg_dyadic.specs.Number.{Number}
 use Rattle.cg_form.specs.Game.{Game, node, number}
 use Rattle.cg_form.specs.Shifted.{shifted}
-use Rattle.cg_cells.specs.Store.{State}
-use Rattle.cg_nodes.specs.Games.{AreGames, game_at, games_at}
-use Rattle.cg_nodes.specs.Meant.{Meant}
-use Rattle.cg_canon.proofs.HandleLists.{games_take_all, games_take_suc}
+use Rattle.cg_form.specs.Size.{list_size, size}
 use Rattle.cg_names.specs.Named.{nimber_form, nimbers_below}
 use Rattle.cg_names.specs.Readings.{AreStars, stars_above}
 use Rattle.cg_names.specs.Shapes.{named_form_of}
@@ -18,21 +15,6 @@ use Rattle.cg_names.proofs.Guessing.{above_zero, found-form, named_form-found}
 use Rattle.cg_names.proofs.NameRule.{some_is}
 use Rattle.cg_names.proofs.NamedFormLists.{length-stars, mirrored-node, mirrored-others, mirrored-own}
 use Rattle.cg_names.proofs.NamedFormLists.{not_number, shifted-zero, star_over, stars_first, stars_next}
-
--- ---- handles in front
-
-pub games_front : {R : Type 0} (s : State Meant R) (hs : List ℕ) (i : ℕ) → AreGames s hs → AreGames s (take i hs)
-games_front s [] zero a = tt
-games_front s [] (suc i) a = tt
-games_front s (h ∷ hs) zero a = tt
-games_front s (h ∷ hs) (suc i) a = (a.0, games_front s hs i a.1)
-
--- the last game behind the others
-pub games_last : {R : Type 0} (s : State Meant R) (hs : List ℕ) (i k : ℕ) → i < length hs → length hs ≤ suc i
-    → k ≡ get_or hs i k → games_at s hs ≡ games_at s (take i hs) ++ (game_at s k ∷ [])
-games_last s hs i k l m e =
-    sym (games_take_all s hs (suc i) m) ∙ games_take_suc s hs i k l
-    ∙ ap (λ (z : ℕ). games_at s (take i hs) ++ (game_at s z ∷ [])) (sym e)
 
 -- ---- a game over such a list
 
@@ -60,10 +42,10 @@ pub stars_at : (gs hs : List Game) (o : Option Number) → gs ≡ hs → AreStar
 stars_at gs hs o e i = rw (← e) i
 
 -- x + *n over the list of its options
-pub star-is : (ls rs gs : List Game) (x : Number) (n : ℕ) → gs ≡ ls → ls ≡ rs → length gs ≡ n → AreStars gs (Some x)
+pub star-is : (ls rs : List Game) (x : Number) (n : ℕ) → ls ≡ rs → length ls ≡ n → AreStars ls (Some x)
     → (1 ≤ n) × (node ls rs ≡ shifted x (nimber_form n))
-star-is ls rs gs x n e f l i =
-    let stars : ls ≡ stars_above x n = sym e ∙ i.1 ∙ ap (λ (k : ℕ). stars_above x k) l in
+star-is ls rs x n f l i =
+    let stars : ls ≡ stars_above x n = i.1 ∙ ap (λ (k : ℕ). stars_above x k) l in
     let some : 1 ≤ n = let m = i.0 in omega arith in
     (some, star-found ls rs x n some stars (sym f ∙ stars))
 
@@ -135,12 +117,9 @@ module _ (ls rs hs : List Game) (o : Option NamedForm) (is : o ≡ named_form_of
   pub others_behind : ¬ (ls ≡ hs) → AreStars (hs ++ (node ls rs ∷ [])) None
   others_behind other y n e = let (m, p, q) = star_last y n e in other ((star-lists ls rs y m q).0 ∙ sym p)
 
--- ---- no handle, or some
+-- ---- the last option
 
-pub none_there : {R : Type 0} (s : State Meant R) (hs : List ℕ) → nat_eq (length hs) 0 ≡ true → games_at s hs ≡ []
-none_there s [] e = refl
-none_there s (h ∷ hs) e = absurd (let z = eqb-true (length (h ∷ hs)) 0 e in omega arith)
-
-pub some_there : (hs : List ℕ) → nat_eq (length hs) 0 ≡ false → 0 < length hs
-some_there [] e = absurd (cc)
-some_there (h ∷ hs) e = omega arith
+-- it is no larger than all of them
+pub last_size : (gs : List Game) (g : Game) → size g ≤ list_size (gs ++ (g ∷ []))
+last_size [] g = omega arith
+last_size (h ∷ gs) g = let l = last_size gs g in omega arith

@@ -4,7 +4,7 @@ use Rattle.std.specs.Prelude.{cond}
 use Rattle.cg_dyadic.specs.Number.{Number}
 use Rattle.cg_dyadic.proofs.Truth.{false-from}
 use Rattle.cg_form.specs.Game.{Among, Game, number}
-use Rattle.cg_form.specs.Positions.{all_positions, once, positions_of}
+use Rattle.cg_form.specs.Positions.{once, positions_of}
 use Rattle.cg_form.specs.Structure.{is_same}
 use Rattle.cg_dyadic.specs.Exact.{number_negative}
 use Rattle.cg_names.specs.Named.{first_number, other_numbers, pair_form, pair_positions, second_number}

@@ -5,7 +5,7 @@ use Rattle.cg_dyadic.proofs.Values.{number_le-refl}
 use Rattle.cg_form.specs.Canonical.{Canonical}
 use Rattle.cg_form.specs.Game.{Among, Game, number}
 use Rattle.cg_form.specs.Side.{AtMost, far, near}
-use Rattle.cg_form.specs.Structure.{Before, Rises}
+use Rattle.cg_form.specs.Structure.{Rises}
 use Rattle.cg_form.proofs.Among.{carry}
 use Rattle.cg_form.proofs.Sides.{not_far, not_near, side_fold, side_turned, side_unfold}
 use Rattle.cg_names.specs.Named.{mirrored_if, star_form, ups_of, zero_form, zero_number}

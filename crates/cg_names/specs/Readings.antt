@@ -4,34 +4,20 @@ use Rattle.cg_dyadic.specs.Number.{Number}
 use Rattle.cg_form.specs.Game as tree
 use Rattle.cg_form.specs.Game.{node}
 use Rattle.cg_form.specs.Shifted.{shifted}
-use Rattle.cg_cells.specs.Store.{State}
-use Rattle.cg_nodes.specs.Games.{IsGame, IsList, game_at, listed}
-use Rattle.cg_nodes.specs.Meant.{Meant}
+use Rattle.cg_arena.specs.Arena.{IsIndex, game_of}
 use Rattle.cg_names.specs.Named.{mirrored_if, nimber_form, nimbers_below, pair_form, tiny_form, ups_of}
 use Rattle.cg_names.specs.Shapes.{HasForm}
 use Rattle.cg_names.specs.NamedForms.{IsPositive}
 use Rattle.cg_names.specs.declared.shape.Numbers.{Numbers}
-use Rattle.cg_names.specs.declared.shape.Two.{Two}
 use Rattle.cg_names.specs.declared.look_star.StarFound.{StarFound}
 use Rattle.cg_names.specs.declared.look_arrows.ArrowsFound.{ArrowsFound}
 use Rattle.cg_names.specs.declared.named_form.NamedForm.{NamedForm}
 use Rattle.cg_names.specs.declared.named_form.NamedForm.TheVariants.{Star}
 
--- the one game of a list that has one
-abbrev pub IsOnly : {R : Type 0} → State Meant R → Option ℕ → List tree.Game → Type 0
-IsOnly {R} s None gs = (a : tree.Game) → ¬ (gs ≡ a ∷ [])
-IsOnly {R} s (Some h) gs = IsGame s h × (gs ≡ game_at s h ∷ [])
-
--- the two games of a list that has two
-abbrev pub IsTwo : {R : Type 0} → State Meant R → Option Two → List tree.Game → Type 0
-IsTwo {R} s None gs = (a b : tree.Game) → ¬ (gs ≡ a ∷ (b ∷ []))
-IsTwo {R} s (Some p) gs =
-    IsGame s p.first × IsGame s p.second × (gs ≡ game_at s p.first ∷ (game_at s p.second ∷ []))
-
--- what is behind the game in a list that begins with it
-abbrev pub IsBehind : {R : Type 0} → State Meant R → tree.Game → List tree.Game → Option (Option ℕ) → Type 0
-IsBehind {R} s g gs None = (hs : List tree.Game) → ¬ (gs ≡ g ∷ hs)
-IsBehind {R} s g gs (Some rest) = IsList s rest × (gs ≡ g ∷ listed s rest)
+-- the index of the one game of a list that has one
+abbrev pub IsOnly : List tree.Game → Option ℕ → List tree.Game → Type 0
+IsOnly gs None hs = (g : tree.Game) → ¬ (hs ≡ g ∷ [])
+IsOnly gs (Some i) hs = IsIndex gs i × (hs ≡ game_of gs i ∷ [])
 
 -- two numbers
 abbrev pub AreNumbers : tree.Game → tree.Game → Option Numbers → Type 0
@@ -67,15 +53,14 @@ abbrev pub IsMore : Bool → Number → tree.Game → Option NamedForm → Type 
 IsMore down x g None = IsArrows down (mirrored_if down (tree.number x ∷ []) (g ∷ [])) None
 IsMore down x g (Some s) = HasForm (mirrored_if down (tree.number x ∷ []) (g ∷ [])) s
 
--- x, x + * and x
-pub record AreUpStar (a b c : tree.Game) (x : Number) : Type 0 where
-  pub first : a ≡ tree.number x
-  pub second : b ≡ pair_form x x
-  pub last : c ≡ tree.number x
+-- the options are x and x + *, and the last game is x
+pub record AreUpStar (gs : List tree.Game) (h : tree.Game) (x : Number) : Type 0 where
+  pub own : gs ≡ tree.number x ∷ (pair_form x x ∷ [])
+  pub last : h ≡ tree.number x
 
-abbrev pub IsUpStar : tree.Game → tree.Game → tree.Game → Option Number → Type 0
-IsUpStar a b c None = (x : Number) → ¬ AreUpStar a b c x
-IsUpStar a b c (Some x) = AreUpStar a b c x
+abbrev pub IsUpStar : List tree.Game → tree.Game → Option Number → Type 0
+IsUpStar own last None = (x : Number) → ¬ AreUpStar own last x
+IsUpStar own last (Some x) = AreUpStar own last x
 
 -- tiny of a number above 0, or miny
 abbrev pub IsTiny : Bool → tree.Game → Option Number → Type 0

@@ -23,6 +23,6 @@ mod shape;
 
 pub use arrows::ups;
 pub use named_form::NamedForm;
-pub use naming::name;
+pub use naming::{name, named};
 pub use nimbers::nimber;
 pub use pairs::{switch, tiny};

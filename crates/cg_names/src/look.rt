@@ -2,139 +2,98 @@
 ghost use Rattle.std.specs.Prelude.{◌≡◌, ◌+◌, ◌≤◌, IfOk, OnOk, Some, None, [], ◌∷◌};
 ghost use Rattle.cg_dyadic.specs.Number.{Number};
 ghost use Rattle.cg_form.specs.Game.{node, number as number_form};
-ghost use Rattle.cg_cells.specs.Store.{Spends};
-ghost use Rattle.cg_nodes.specs.Games.{AreGames, IsGame, IsList, game_at, games_at, listed};
-ghost use Rattle.cg_names.specs.Memos.{HasFewArrows, IsShape, Recalls, arrow_count, kept};
+ghost use Rattle.cg_arena.specs.Arena.{AreIndexes, IsIndex, game_of, games_of};
+ghost use Rattle.cg_canon.specs.Walking.{AreApart};
+ghost use Rattle.cg_names.specs.Memos.{Recalls, arrow_count, kept};
 ghost use Rattle.cg_names.specs.Named.{mirrored_if};
 ghost use Rattle.cg_names.specs.Readings.{AreStars, IsStar};
 ghost use Rattle.cg_names.specs.Shapes.{named_form_of};
 
 use crate::look_arrows::{one_more, starred_arrow};
 use crate::look_pairs::{named_switch, tiny};
-use crate::look_star::{StarFound, are_one_list, one_star, star_on};
+use crate::look_star::{StarFound, are_same, one_star, star_on};
 use crate::memo::Memo;
 use crate::named_form::NamedForm;
 use crate::shape::{number_at, only};
-use cg_cells::CellStore;
+use cg_canon::{Arena, Read};
 use cg_dyadic::Dyadic;
-use cg_nodes::{BoardForms, GameFacts, Handle, ListId, Reading, handles, read};
-use std::alloc::{AllocError, Global};
+use std::alloc::AllocError;
 
-/// What a handle stands for: a number, or a game with its lists of Left and of Right options and its named form, if it
-/// has one.
-#[derive(Clone, Copy, Debug)]
-pub(crate) enum Shape {
-    /// A number.
-    Number(Dyadic),
-    /// Another game.
-    Game(ListId, ListId, Option<NamedForm>),
-}
-
-/// What the handle stands for. The named form of each game is found once, and from then on is in the memo. The only
-/// error is want of memory.
+/// The named form of the game at the index, which has these options. It is found once, and from then on is in the
+/// memo. The only error is want of memory.
 #[cycle(look)]
-pub(crate) fn look<B: BoardForms, S: CellStore<GameFacts<B>>>(
-    alloc: Global,
-    store: &mut S,
+pub(crate) fn named_form(
+    arena: &Arena,
     memo: &mut Memo,
-    handle: Handle,
-) -> Result<Shape, AllocError>
-    requires game { IsGame (S.state store.old) handle }
-    requires memo { Recalls (S.state store.old) memo.old }
-    ensures look { IfOk result (λ l. IsShape (S.state store.new) l (game_at (S.state store.old) handle)) }
-    ensures few { IfOk result (HasFewArrows memo.new) }
-    ensures memo { OnOk result (Recalls (S.state store.new) memo.new) }
-    ensures spends { Spends 0 (S.state store.old) (S.state store.new) }
-{
-    match read(store, handle) {
-        Reading::Number(x) => Ok(Shape::Number(x)),
-        Reading::Game(lefts, rights) => {
-            let named_form = named_form(alloc, store, memo, handle, lefts, rights)?;
-            Ok(Shape::Game(lefts, rights, named_form))
-        }
-    }
-}
-
-/// The named form of the game of the handle, which has these lists of options: from the memo, or else by its shape.
-#[cycle(look)]
-fn named_form<B: BoardForms, S: CellStore<GameFacts<B>>>(
-    alloc: Global,
-    store: &mut S,
-    memo: &mut Memo,
-    handle: Handle,
-    lefts: ListId,
-    rights: ListId,
+    index: u32,
+    lefts: &[u32],
+    rights: &[u32],
 ) -> Result<Option<NamedForm>, AllocError>
-    requires game { IsGame (S.state store.old) handle }
-    requires lefts { IsList (S.state store.old) lefts }
-    requires rights { IsList (S.state store.old) rights }
-    requires options { let W = S.state store.old in game_at W handle ≡ node (listed W lefts) (listed W rights) }
-    requires memo { Recalls (S.state store.old) memo.old }
-    ensures named_form { IfOk result (λ s. s ≡ named_form_of (game_at (S.state store.old) handle)) }
+    requires apart { AreApart arena.now }
+    requires lefts { AreIndexes arena.now lefts.now }
+    requires rights { AreIndexes arena.now rights.now }
+    requires options { game_of arena.now index ≡ node (games_of arena.now lefts.now) (games_of arena.now rights.now) }
+    requires memo { Recalls arena.now memo.old }
+    ensures named_form { IfOk result (λ s. s ≡ named_form_of (game_of arena.now index)) }
     ensures few { IfOk result (λ s. arrow_count s ≤ kept memo.new) }
-    ensures memo { OnOk result (Recalls (S.state store.new) memo.new) }
-    ensures spends { Spends 0 (S.state store.old) (S.state store.new) }
+    ensures memo { OnOk result (Recalls arena.now memo.new) }
 {
-    let id = handle.id().number();
-    match memo.recall(id) {
+    match memo.recall(index) {
         Some(named_form) => Ok(named_form),
         None => {
-            let named_form = named_by_shape(alloc, store, memo, lefts, rights)?;
-            memo.remember(id, &named_form)?;
+            let named_form = named_by_shape(arena, memo, lefts, rights)?;
+            memo.remember(index, &named_form)?;
             Ok(named_form)
         }
     }
 }
 
-/// The named form of the game with these lists of options, by its shape.
+/// The named form of the game with these options, by its shape.
 #[cycle(look)]
-fn named_by_shape<B: BoardForms, S: CellStore<GameFacts<B>>>(
-    alloc: Global,
-    store: &mut S,
+fn named_by_shape(
+    arena: &Arena,
     memo: &mut Memo,
-    lefts: ListId,
-    rights: ListId,
+    lefts: &[u32],
+    rights: &[u32],
 ) -> Result<Option<NamedForm>, AllocError>
-    requires lefts { IsList (S.state store.old) lefts }
-    requires rights { IsList (S.state store.old) rights }
-    requires memo { Recalls (S.state store.old) memo.old }
-    ensures named_form { let W = S.state store.old in IfOk result (λ s. s ≡ named_form_of
-        (node (listed W lefts) (listed W rights))) }
+    requires apart { AreApart arena.now }
+    requires lefts { AreIndexes arena.now lefts.now }
+    requires rights { AreIndexes arena.now rights.now }
+    requires memo { Recalls arena.now memo.old }
+    ensures named_form { IfOk result (λ s. s ≡ named_form_of
+        (node (games_of arena.now lefts.now) (games_of arena.now rights.now))) }
     ensures few { IfOk result (λ s. arrow_count s ≤ kept memo.new + 1) }
-    ensures memo { OnOk result (Recalls (S.state store.new) memo.new) }
-    ensures spends { Spends 0 (S.state store.old) (S.state store.new) }
+    ensures memo { OnOk result (Recalls arena.now memo.new) }
 {
-    match star(alloc, store, memo, lefts, rights)? {
+    match star(arena, memo, lefts, rights)? {
         Some(found) => Ok(Some(NamedForm::Star(found.base, found.count))),
-        None => named_by_ends(alloc, store, memo, lefts, rights),
+        None => named_by_ends(arena, memo, lefts, rights),
     }
 }
 
 /// The number x and the count n of `x + *n`, with n from 1 on.
 #[cycle(look)]
-fn star<B: BoardForms, S: CellStore<GameFacts<B>>>(
-    alloc: Global,
-    store: &mut S,
+fn star(
+    arena: &Arena,
     memo: &mut Memo,
-    lefts: ListId,
-    rights: ListId,
+    lefts: &[u32],
+    rights: &[u32],
 ) -> Result<Option<StarFound>, AllocError>
-    requires lefts { IsList (S.state store.old) lefts }
-    requires rights { IsList (S.state store.old) rights }
-    requires memo { Recalls (S.state store.old) memo.old }
-    ensures star { let W = S.state store.old in IfOk result (IsStar (node (listed W lefts) (listed W rights))) }
-    ensures memo { OnOk result (Recalls (S.state store.new) memo.new) }
-    ensures spends { Spends 0 (S.state store.old) (S.state store.new) }
+    requires apart { AreApart arena.now }
+    requires lefts { AreIndexes arena.now lefts.now }
+    requires rights { AreIndexes arena.now rights.now }
+    requires memo { Recalls arena.now memo.old }
+    ensures star { IfOk result (IsStar (node (games_of arena.now lefts.now) (games_of arena.now rights.now))) }
+    ensures memo { OnOk result (Recalls arena.now memo.new) }
 {
-    if !are_one_list(store, lefts, rights) {
+    if !are_same(arena, lefts, rights) {
         return Ok(None);
     }
-    let options = handles(alloc, store, lefts)?;
-    match stars(alloc, store, memo, options.as_slice())? {
+    match stars(arena, memo, lefts)? {
         None => Ok(None),
         Some(base) => Ok(Some(StarFound {
             base,
-            count: options.len() as u64,
+            count: lefts.len() as u64,
         })),
     }
 }
@@ -142,90 +101,80 @@ fn star<B: BoardForms, S: CellStore<GameFacts<B>>>(
 /// The number x where the games are x, x + *, x + *2 and so on. The named form of the last one tells what the others
 /// must be.
 #[cycle(look)]
-fn stars<B: BoardForms, S: CellStore<GameFacts<B>>>(
-    alloc: Global,
-    store: &mut S,
-    memo: &mut Memo,
-    options: &[Handle],
-) -> Result<Option<Dyadic>, AllocError>
-    requires games { AreGames (S.state store.old) options.now }
-    requires memo { Recalls (S.state store.old) memo.old }
-    ensures stars { IfOk result (AreStars (games_at (S.state store.old) options.now)) }
-    ensures memo { OnOk result (Recalls (S.state store.new) memo.new) }
-    ensures spends { Spends 0 (S.state store.old) (S.state store.new) }
+fn stars(arena: &Arena, memo: &mut Memo, options: &[u32]) -> Result<Option<Dyadic>, AllocError>
+    requires apart { AreApart arena.now }
+    requires options { AreIndexes arena.now options.now }
+    requires memo { Recalls arena.now memo.old }
+    ensures stars { IfOk result (AreStars (games_of arena.now options.now)) }
+    ensures memo { OnOk result (Recalls arena.now memo.new) }
 {
-    if options.is_empty() {
+    let Some((last, others)) = options.split_last() else {
         return Ok(None);
-    }
-    let place = options.len() - 1;
-    match look(alloc, store, memo, options[place])? {
-        Shape::Number(x) => Ok(one_star(x, place)),
-        Shape::Game(lefts, _, named_form) => Ok(star_on(
-            store,
-            lefts,
-            &named_form,
-            &options[..place],
-        )),
+    };
+    match arena.read(*last) {
+        Read::Number(x) => Ok(one_star(x, others.len())),
+        Read::Game(lefts, rights) => {
+            let named_form = named_form(arena, memo, *last, lefts, rights)?;
+            Ok(star_on(arena, lefts, &named_form, others))
+        }
     }
 }
 
 /// The named form of a game that has none with a nimber alone.
 #[cycle(look)]
-fn named_by_ends<B: BoardForms, S: CellStore<GameFacts<B>>>(
-    alloc: Global,
-    store: &mut S,
+fn named_by_ends(
+    arena: &Arena,
     memo: &mut Memo,
-    lefts: ListId,
-    rights: ListId,
+    lefts: &[u32],
+    rights: &[u32],
 ) -> Result<Option<NamedForm>, AllocError>
-    requires lefts { IsList (S.state store.old) lefts }
-    requires rights { IsList (S.state store.old) rights }
-    requires no_star { let W = S.state store.old in IsStar (node (listed W lefts) (listed W rights)) None }
-    requires memo { Recalls (S.state store.old) memo.old }
-    ensures named_form { let W = S.state store.old in IfOk result (λ s. s ≡ named_form_of
-        (node (listed W lefts) (listed W rights))) }
+    requires apart { AreApart arena.now }
+    requires lefts { AreIndexes arena.now lefts.now }
+    requires rights { AreIndexes arena.now rights.now }
+    requires no_star { IsStar (node (games_of arena.now lefts.now) (games_of arena.now rights.now)) None }
+    requires memo { Recalls arena.now memo.old }
+    ensures named_form { IfOk result (λ s. s ≡ named_form_of
+        (node (games_of arena.now lefts.now) (games_of arena.now rights.now))) }
     ensures few { IfOk result (λ s. arrow_count s ≤ kept memo.new + 1) }
-    ensures memo { OnOk result (Recalls (S.state store.new) memo.new) }
-    ensures spends { Spends 0 (S.state store.old) (S.state store.new) }
+    ensures memo { OnOk result (Recalls arena.now memo.new) }
 {
-    match only(store, lefts) {
-        None => match only(store, rights) {
+    match only(arena, lefts) {
+        None => match only(arena, rights) {
             None => Ok(None),
-            Some(last) => Ok(starred_arrow(store, false, lefts, last)),
+            Some(last) => Ok(starred_arrow(arena, false, lefts, last)),
         },
-        Some(first) => match only(store, rights) {
-            None => Ok(starred_arrow(store, true, rights, first)),
-            Some(last) => named_of_two(alloc, store, memo, first, last),
+        Some(first) => match only(arena, rights) {
+            None => Ok(starred_arrow(arena, true, rights, first)),
+            Some(last) => named_of_two(arena, memo, first, last),
         },
     }
 }
 
 /// The named form of `{first|last}`, which has none with a nimber alone.
 #[cycle(look)]
-fn named_of_two<B: BoardForms, S: CellStore<GameFacts<B>>>(
-    alloc: Global,
-    store: &mut S,
+fn named_of_two(
+    arena: &Arena,
     memo: &mut Memo,
-    first: Handle,
-    last: Handle,
+    first: u32,
+    last: u32,
 ) -> Result<Option<NamedForm>, AllocError>
-    requires first { IsGame (S.state store.old) first }
-    requires last { IsGame (S.state store.old) last }
-    requires no_star { let W = S.state store.old in IsStar (node (game_at W first ∷ []) (game_at W last ∷ [])) None }
-    requires memo { Recalls (S.state store.old) memo.old }
-    ensures named_form { let W = S.state store.old in IfOk result (λ s. s ≡ named_form_of
-        (node (game_at W first ∷ []) (game_at W last ∷ []))) }
+    requires apart { AreApart arena.now }
+    requires first { IsIndex arena.now first }
+    requires last { IsIndex arena.now last }
+    requires no_star { IsStar (node (game_of arena.now first ∷ []) (game_of arena.now last ∷ [])) None }
+    requires memo { Recalls arena.now memo.old }
+    ensures named_form { IfOk result (λ s. s ≡ named_form_of
+        (node (game_of arena.now first ∷ []) (game_of arena.now last ∷ []))) }
     ensures few { IfOk result (λ s. arrow_count s ≤ kept memo.new + 1) }
-    ensures memo { OnOk result (Recalls (S.state store.new) memo.new) }
-    ensures spends { Spends 0 (S.state store.old) (S.state store.new) }
+    ensures memo { OnOk result (Recalls arena.now memo.new) }
 {
-    match number_at(store, first) {
-        None => match number_at(store, last) {
+    match number_at(arena, first) {
+        None => match number_at(arena, last) {
             None => Ok(None),
-            Some(y) => steep(alloc, store, memo, true, y, first),
+            Some(y) => steep(arena, memo, true, y, first),
         },
-        Some(x) => match number_at(store, last) {
-            None => steep(alloc, store, memo, false, x, last),
+        Some(x) => match number_at(arena, last) {
+            None => steep(arena, memo, false, x, last),
             Some(y) => Ok(named_switch(x, y)),
         },
     }
@@ -233,28 +182,28 @@ fn named_of_two<B: BoardForms, S: CellStore<GameFacts<B>>>(
 
 /// The named form of `{x|last}`, or of `{last|x}` where it is `down`: tiny or miny, ups or downs.
 #[cycle(look)]
-fn steep<B: BoardForms, S: CellStore<GameFacts<B>>>(
-    alloc: Global,
-    store: &mut S,
+fn steep(
+    arena: &Arena,
     memo: &mut Memo,
     down: bool,
     x: Dyadic,
-    last: Handle,
+    last: u32,
 ) -> Result<Option<NamedForm>, AllocError>
-    requires game { IsGame (S.state store.old) last }
-    requires other { (y : Number) → ¬ (game_at (S.state store.old) last ≡ number_form y) }
-    requires memo { Recalls (S.state store.old) memo.old }
+    requires apart { AreApart arena.now }
+    requires index { IsIndex arena.now last }
+    requires other { (y : Number) → ¬ (game_of arena.now last ≡ number_form y) }
+    requires memo { Recalls arena.now memo.old }
     ensures named_form { IfOk result (λ s. s ≡ named_form_of
-        (mirrored_if down (number_form x ∷ []) (game_at (S.state store.old) last ∷ []))) }
+        (mirrored_if down (number_form x ∷ []) (game_of arena.now last ∷ []))) }
     ensures few { IfOk result (λ s. arrow_count s ≤ kept memo.new + 1) }
-    ensures memo { OnOk result (Recalls (S.state store.new) memo.new) }
-    ensures spends { Spends 0 (S.state store.old) (S.state store.new) }
+    ensures memo { OnOk result (Recalls arena.now memo.new) }
 {
-    match look(alloc, store, memo, last)? {
-        Shape::Number(_) => Ok(None),
-        Shape::Game(lefts, rights, named_form) => match tiny(store, down, x, lefts, rights) {
+    match arena.read(last) {
+        Read::Number(_) => Ok(None),
+        Read::Game(lefts, rights) => match tiny(arena, down, x, lefts, rights) {
             Some(size) => Ok(Some(NamedForm::Tiny(down, size))),
             None => {
+                let named_form = named_form(arena, memo, last, lefts, rights)?;
                 memo.has_room();
                 Ok(one_more(down, x, &named_form))
             }

@@ -2,8 +2,8 @@
 ghost use Rattle.std.specs.Prelude.{◌≡◌, ◌+◌, ◌<◌, ◌≤◌, ◌^◌, Bool, IfSome, None, Some, true, false, [], ◌∷◌};
 ghost use Rattle.cg_dyadic.specs.Number.{Number};
 ghost use Rattle.cg_form.specs.Game.{Game, number as number_form};
-ghost use Rattle.cg_cells.specs.Store.{Spends};
-ghost use Rattle.cg_nodes.specs.Games.{IsGame, IsList, IsNode, game_at, listed};
+ghost use Rattle.cg_arena.specs.Arena.{AreIndexes, IsIndex, game_of, games_of};
+ghost use Rattle.cg_nodes.specs.Games.{IsNode};
 ghost use Rattle.cg_names.specs.Memos.{arrow_count};
 ghost use Rattle.cg_names.specs.Named.{mirrored_if, pair_form};
 ghost use Rattle.cg_names.specs.Readings.{IsArrows, IsMore, IsStar, IsUpStar};
@@ -11,10 +11,9 @@ ghost use Rattle.cg_names.specs.Shapes.{named_form_of};
 
 use crate::named_form::NamedForm;
 use crate::numbers::is_same;
-use crate::shape::{numbers_at, numbers_of, two_of};
-use cg_cells::CellStore;
+use crate::shape::{numbers_at, numbers_of};
+use cg_canon::{Arena, Read};
 use cg_dyadic::Dyadic;
-use cg_nodes::{BoardForms, GameFacts, Handle, ListId, Reading, read};
 
 /// A number and so many ups or downs, and `*` where it is starred.
 #[derive(Clone, Copy, Debug)]
@@ -112,75 +111,56 @@ fn level_at(x: Dyadic, count: u64) -> Option<ArrowsFound>
 
 /// The named form of `{own|last}` where own has another number of options than one, or of its mirror image where it is
 /// `down`: of these only `{x,x + *|x}` has one, which is `x + ^*`.
-pub(crate) fn starred_arrow<B: BoardForms, S: CellStore<GameFacts<B>>>(
-    store: &mut S,
-    down: bool,
-    own: ListId,
-    last: Handle,
-) -> Option<NamedForm>
-    requires own { IsList (S.state store.old) own }
-    requires last { IsGame (S.state store.old) last }
-    requires more { (a : Game) → ¬ (listed (S.state store.old) own ≡ a ∷ []) }
-    requires no_star { let W = S.state store.old in IsStar
-        (mirrored_if down (listed W own) (game_at W last ∷ [])) None }
-    ensures named_form { let W = S.state store.old in result ≡ named_form_of
-        (mirrored_if down (listed W own) (game_at W last ∷ [])) }
+pub(crate) fn starred_arrow(arena: &Arena, down: bool, own: &[u32], last: u32) -> Option<NamedForm>
+    requires own { AreIndexes arena.now own.now }
+    requires last { IsIndex arena.now last }
+    requires more { (a : Game) → ¬ (games_of arena.now own.now ≡ a ∷ []) }
+    requires no_star { IsStar (mirrored_if down (games_of arena.now own.now) (game_of arena.now last ∷ [])) None }
+    ensures named_form { result ≡ named_form_of
+        (mirrored_if down (games_of arena.now own.now) (game_of arena.now last ∷ [])) }
     ensures few { arrow_count result ≤ 1 }
-    ensures spends { Spends 0 (S.state store.old) (S.state store.new) }
 {
-    match two_of(store, own) {
+    match up_star(arena, own, last) {
         None => None,
-        Some(pair) => match up_star(store, pair.first, pair.second, last) {
-            None => None,
-            Some(base) => Some(NamedForm::Arrows {
-                down,
-                starred: true,
-                base,
-                count: 1,
-            }),
-        },
+        Some(base) => Some(NamedForm::Arrows {
+            down,
+            starred: true,
+            base,
+            count: 1,
+        }),
     }
 }
 
-/// The number x where the three games are x, x + * and x.
-fn up_star<B: BoardForms, S: CellStore<GameFacts<B>>>(
-    store: &mut S,
-    first: Handle,
-    second: Handle,
-    last: Handle,
-) -> Option<Dyadic>
-    requires first { IsGame (S.state store.old) first }
-    requires second { IsGame (S.state store.old) second }
-    requires last { IsGame (S.state store.old) last }
-    ensures found { let W = S.state store.old in IsUpStar (game_at W first) (game_at W second) (game_at W last) result }
-    ensures spends { Spends 0 (S.state store.old) (S.state store.new) }
+/// The number x where the options are x and x + *, and the last game is x.
+fn up_star(arena: &Arena, own: &[u32], last: u32) -> Option<Dyadic>
+    requires own { AreIndexes arena.now own.now }
+    requires last { IsIndex arena.now last }
+    ensures { IsUpStar (games_of arena.now own.now) (game_of arena.now last) result }
 {
-    match numbers_at(store, first, last) {
-        None => None,
-        Some(ends) => {
-            if is_same(ends.left, ends.right) && is_pair(store, second, ends.left) {
-                Some(ends.left)
-            } else {
-                None
+    match own {
+        [first, second] => match numbers_at(arena, *first, last) {
+            None => None,
+            Some(ends) => {
+                if is_same(ends.left, ends.right) && is_pair(arena, *second, ends.left) {
+                    Some(ends.left)
+                } else {
+                    None
+                }
             }
-        }
+        },
+        _ => None,
     }
 }
 
 /// Whether the game is `{x|x}`.
-fn is_pair<B: BoardForms, S: CellStore<GameFacts<B>>>(
-    store: &mut S,
-    handle: Handle,
-    x: Dyadic,
-) -> bool
-    requires { IsGame (S.state store.old) handle }
-    ensures same { result ≡ true → game_at (S.state store.old) handle ≡ pair_form x x }
-    ensures other { result ≡ false → ¬ (game_at (S.state store.old) handle ≡ pair_form x x) }
-    ensures spends { Spends 0 (S.state store.old) (S.state store.new) }
+fn is_pair(arena: &Arena, index: u32, x: Dyadic) -> bool
+    requires { IsIndex arena.now index }
+    ensures same { result ≡ true → game_of arena.now index ≡ pair_form x x }
+    ensures other { result ≡ false → ¬ (game_of arena.now index ≡ pair_form x x) }
 {
-    match read(store, handle) {
-        Reading::Number(_) => false,
-        Reading::Game(lefts, rights) => match numbers_of(store, lefts, rights) {
+    match arena.read(index) {
+        Read::Number(_) => false,
+        Read::Game(lefts, rights) => match numbers_of(arena, lefts, rights) {
             None => false,
             Some(pair) => is_same(pair.left, x) && is_same(pair.right, x),
         },

@@ -1,8 +1,7 @@
 //! Switches, tinies and minies by the shape of their options.
 ghost use Rattle.std.specs.Prelude.{◌≡◌, ◌↔◌, cond, IsTrue, Some, None, [], ◌∷◌};
 ghost use Rattle.cg_form.specs.Game.{node, number as number_form};
-ghost use Rattle.cg_cells.specs.Store.{Spends};
-ghost use Rattle.cg_nodes.specs.Games.{IsList, listed};
+ghost use Rattle.cg_arena.specs.Arena.{AreIndexes, games_of};
 ghost use Rattle.cg_dyadic.specs.Exact.{number_negative};
 ghost use Rattle.cg_names.specs.Memos.{arrow_count};
 ghost use Rattle.cg_names.specs.Named.{mirrored_if, pair_form, zero_number};
@@ -13,10 +12,8 @@ ghost use Rattle.cg_names.specs.NamedForms.{IsPositive};
 use crate::named_form::NamedForm;
 use crate::numbers::{is_positive, is_same, opposite};
 use crate::shape::{Numbers, numbers_of};
-use cg_canon::zero;
-use cg_cells::CellStore;
+use cg_canon::{Arena, zero};
 use cg_dyadic::Dyadic;
-use cg_nodes::{BoardForms, GameFacts, ListId};
 
 /// The named form of `{x|y}`, which has none with a nimber.
 pub(crate) fn named_switch(x: Dyadic, y: Dyadic) -> Option<NamedForm>
@@ -31,20 +28,19 @@ pub(crate) fn named_switch(x: Dyadic, y: Dyadic) -> Option<NamedForm>
 }
 
 /// The number of Tiny that x and the game of these lists make, or of Miny.
-pub(crate) fn tiny<B: BoardForms, S: CellStore<GameFacts<B>>>(
-    store: &mut S,
+pub(crate) fn tiny(
+    arena: &Arena,
     miny: bool,
     x: Dyadic,
-    lefts: ListId,
-    rights: ListId,
+    lefts: &[u32],
+    rights: &[u32],
 ) -> Option<Dyadic>
-    requires lefts { IsList (S.state store.old) lefts }
-    requires rights { IsList (S.state store.old) rights }
-    ensures tiny { let W = S.state store.old in IsTiny miny
-        (mirrored_if miny (number_form x ∷ []) (node (listed W lefts) (listed W rights) ∷ [])) result }
-    ensures spends { Spends 0 (S.state store.old) (S.state store.new) }
+    requires lefts { AreIndexes arena.now lefts.now }
+    requires rights { AreIndexes arena.now rights.now }
+    ensures { IsTiny miny (mirrored_if miny (number_form x ∷ [])
+        (node (games_of arena.now lefts.now) (games_of arena.now rights.now) ∷ [])) result }
 {
-    match numbers_of(store, lefts, rights) {
+    match numbers_of(arena, lefts, rights) {
         None => None,
         Some(pair) => tiny_size(miny, x, &pair),
     }

@@ -6,7 +6,7 @@ use crate::named_form::NamedForm;
 use std::alloc::{AllocError, Global};
 use std::collections::HashMap;
 
-/// The named forms of games, by their ids, or that a game has none.
+/// The named forms of games, by the indexes of the games, or that a game has none.
 #[derive(Drop)]
 pub(crate) struct Memo {
     named_forms: HashMap<u32, Option<NamedForm>>,
@@ -22,14 +22,14 @@ impl Memo {
         }
     }
 
-    /// What was found for the id, if anything was.
+    /// What was found for the index, if anything was.
     pub fn recall(&self, a: u32) -> Option<Option<NamedForm>>
         ensures { result ≡ recalled self.now a }
     {
         self.named_forms.get(&a).copied()
     }
 
-    /// Keeps what was found for the id.
+    /// Keeps what was found for the index.
     pub fn remember(&mut self, a: u32, named_form: &Option<NamedForm>) -> Result<(), AllocError>
         ensures ok { IfOk result (λ _. (b : ℕ) → recalled self.new b
             ≡ (if a == b then Some named_form.now else recalled self.old b)) }

@@ -2,23 +2,27 @@
 ghost use Rattle.std.specs.Prelude.{◌≡◌, ◌≤◌, ◌++◌, IfOk, OnOk, string_bytes, cond, length, slice_index, [], ◌∷◌};
 ghost use Rattle.cg_dyadic.specs.Exact.{number_text};
 ghost use Rattle.cg_dyadic.specs.Number.{InRange};
+ghost use Rattle.cg_form.specs.Canonical.{Canonical};
 ghost use Rattle.cg_form.specs.Game.{of_list};
 ghost use Rattle.cg_cells.specs.Store.{Spends};
-ghost use Rattle.cg_nodes.specs.Games.{IsGame, IsList, game_at, listed};
+ghost use Rattle.cg_nodes.specs.Games.{IsGame, game_at};
+ghost use Rattle.cg_arena.specs.Arena.{AreIndexes, IsIndex, game_of, games_of};
+ghost use Rattle.cg_canon.specs.Walking.{AreApart};
+ghost use Rattle.cg_canon.specs.Works.{work_state};
 ghost use Rattle.cg_names.specs.Memos.{Recalls};
 ghost use Rattle.cg_names.specs.Name.{IsName, braces_name};
 ghost use Rattle.cg_names.specs.Reading.{AreNamesInRange, IsNameInRange, IsNamedInRange, ReadsAs, most_open};
 ghost use Rattle.cg_names.specs.NamedForms.{arrows_text, base_text, named_text, star_text};
 ghost use Rattle.cg_names.specs.Spelled.{further_names, name_of, names_of};
 
-use crate::look::{Shape, look};
+use crate::look::named_form;
 use crate::memo::Memo;
 use crate::named_form::NamedForm;
 use crate::numbers::is_same;
-use cg_canon::zero;
+use cg_canon::{Arena, Read, Work, zero};
 use cg_cells::CellStore;
 use cg_dyadic::Dyadic;
-use cg_nodes::{BoardForms, GameFacts, Handle, ListId, head, known_game};
+use cg_nodes::{BoardForms, GameFacts, Handle};
 use std::alloc::{AllocError, Global};
 
 /// The name of the game, by the first of these rules that fits:
@@ -46,63 +50,83 @@ pub fn name<B: BoardForms, S: CellStore<GameFacts<B>>>(
         → ReadsAs (game_at (S.state store.old) handle) (string_bytes text)) }
     ensures spends { Spends 0 (S.state store.old) (S.state store.new) }
 {
-    known_game(store, handle);
+    let mut work = Work::new(alloc, store, 0, 0);
+    let text = named(alloc, &mut work, handle);
+    let _store = work.into_store();
+    text
+}
+
+/// The name of the game, as [`name`] writes it, with the help of what the work has met.
+pub fn named<B: BoardForms, S: CellStore<GameFacts<B>>>(
+    alloc: Global,
+    work: &mut Work<B, S>,
+    handle: Handle,
+) -> Result<String, AllocError>
+    requires { IsGame (work_state S.state work.old) handle }
+    ensures name { IfOk result (λ text. IsName (game_at (work_state S.state work.old) handle) (string_bytes text)) }
+    ensures reads { IfOk result (λ text. most_open 0 (string_bytes text) ≤ 64
+        → ReadsAs (game_at (work_state S.state work.old) handle) (string_bytes text)) }
+    ensures spends { Spends 0 (work_state S.state work.old) (work_state S.state work.new) }
+{
+    let index = work.index(alloc, handle)?;
+    work.distinct_at();
     let mut memo = Memo::new(alloc);
     let mut text = String::new(alloc);
-    push_name(alloc, store, &mut memo, &mut text, handle)?;
+    push_name(alloc, work.arena(), &mut memo, &mut text, index)?;
     Ok(text)
 }
 
-/// Puts the name of the game at the end.
+/// Puts the name of the game at the index at the end.
 #[cycle(push_name)]
-fn push_name<B: BoardForms, S: CellStore<GameFacts<B>>>(
+fn push_name(
     alloc: Global,
-    store: &mut S,
+    arena: &Arena,
     memo: &mut Memo,
     text: &mut String,
-    handle: Handle,
+    index: u32,
 ) -> Result<(), AllocError>
-    requires game { IsGame (S.state store.old) handle }
-    requires memo { Recalls (S.state store.old) memo.old }
-    ensures text { OnOk result (string_bytes text.new ≡ string_bytes text.old ++ name_of
-        (game_at (S.state store.old) handle)) }
-    ensures in_range { OnOk result (IsNameInRange (game_at (S.state store.old) handle)) }
-    ensures memo { OnOk result (Recalls (S.state store.new) memo.new) }
-    ensures spends { Spends 0 (S.state store.old) (S.state store.new) }
+    requires apart { AreApart arena.now }
+    requires index { IsIndex arena.now index }
+    requires memo { Recalls arena.now memo.old }
+    ensures text { OnOk result (string_bytes text.new ≡ string_bytes text.old ++ name_of (game_of arena.now index)) }
+    ensures in_range { OnOk result (IsNameInRange (game_of arena.now index)) }
+    ensures memo { OnOk result (Recalls arena.now memo.new) }
+    ensures canonical { Canonical (game_of arena.now index) }
 {
-    match look(alloc, store, memo, handle)? {
-        Shape::Number(number) => push_number(alloc, text, number),
-        Shape::Game(lefts, rights, named_form) => match named_form {
+    match arena.read(index) {
+        Read::Number(number) => push_number(alloc, text, number),
+        Read::Game(lefts, rights) => match named_form(arena, memo, index, lefts, rights)? {
             Some(named_form) => push_named(alloc, text, &named_form),
-            None => push_braces(alloc, store, memo, text, lefts, rights),
+            None => push_braces(alloc, arena, memo, text, lefts, rights),
         },
     }
 }
 
-/// Puts braces round the names of the games of the two lists at the end.
+/// Puts braces round the names of the options at the end.
 #[cycle(push_name)]
-fn push_braces<B: BoardForms, S: CellStore<GameFacts<B>>>(
+fn push_braces(
     alloc: Global,
-    store: &mut S,
+    arena: &Arena,
     memo: &mut Memo,
     text: &mut String,
-    lefts: ListId,
-    rights: ListId,
+    lefts: &[u32],
+    rights: &[u32],
 ) -> Result<(), AllocError>
-    requires lefts { IsList (S.state store.old) lefts }
-    requires rights { IsList (S.state store.old) rights }
-    requires memo { Recalls (S.state store.old) memo.old }
-    ensures text { let W = S.state store.old in OnOk result (string_bytes text.new ≡ string_bytes text.old
-        ++ braces_name (names_of (of_list (listed W lefts))) (names_of (of_list (listed W rights)))) }
-    ensures lefts_in_range { OnOk result (AreNamesInRange (of_list (listed (S.state store.old) lefts))) }
-    ensures rights_in_range { OnOk result (AreNamesInRange (of_list (listed (S.state store.old) rights))) }
-    ensures memo { OnOk result (Recalls (S.state store.new) memo.new) }
-    ensures spends { Spends 0 (S.state store.old) (S.state store.new) }
+    requires apart { AreApart arena.now }
+    requires lefts { AreIndexes arena.now lefts.now }
+    requires rights { AreIndexes arena.now rights.now }
+    requires memo { Recalls arena.now memo.old }
+    ensures text { OnOk result (string_bytes text.new ≡ string_bytes text.old
+        ++ braces_name (names_of (of_list (games_of arena.now lefts.now)))
+        (names_of (of_list (games_of arena.now rights.now)))) }
+    ensures lefts_in_range { OnOk result (AreNamesInRange (of_list (games_of arena.now lefts.now))) }
+    ensures rights_in_range { OnOk result (AreNamesInRange (of_list (games_of arena.now rights.now))) }
+    ensures memo { OnOk result (Recalls arena.now memo.new) }
 {
     text.push_str("{")?;
-    push_names(alloc, store, memo, text, lefts)?;
+    push_names(alloc, arena, memo, text, lefts)?;
     text.push_str("|")?;
-    push_names(alloc, store, memo, text, rights)?;
+    push_names(alloc, arena, memo, text, rights)?;
     text.push_str("}")
 }
 
@@ -202,54 +226,54 @@ fn push_arrows(alloc: Global, text: &mut String, arrow: &str, count: u64) -> Res
     }
 }
 
-/// Puts the names of the games of the list at the end, with commas between them.
+/// Puts the names of the games at the end, with commas between them.
 #[cycle(push_name)]
-fn push_names<B: BoardForms, S: CellStore<GameFacts<B>>>(
+fn push_names(
     alloc: Global,
-    store: &mut S,
+    arena: &Arena,
     memo: &mut Memo,
     text: &mut String,
-    list: ListId,
+    games: &[u32],
 ) -> Result<(), AllocError>
-    requires list { IsList (S.state store.old) list }
-    requires memo { Recalls (S.state store.old) memo.old }
-    ensures text { OnOk result (string_bytes text.new ≡ string_bytes text.old ++ names_of
-        (of_list (listed (S.state store.old) list))) }
-    ensures in_range { OnOk result (AreNamesInRange (of_list (listed (S.state store.old) list))) }
-    ensures memo { OnOk result (Recalls (S.state store.new) memo.new) }
-    ensures spends { Spends 0 (S.state store.old) (S.state store.new) }
+    requires apart { AreApart arena.now }
+    requires games { AreIndexes arena.now games.now }
+    requires memo { Recalls arena.now memo.old }
+    ensures text { OnOk result (string_bytes text.new ≡ string_bytes text.old
+        ++ names_of (of_list (games_of arena.now games.now))) }
+    ensures in_range { OnOk result (AreNamesInRange (of_list (games_of arena.now games.now))) }
+    ensures memo { OnOk result (Recalls arena.now memo.new) }
 {
-    match head(store, list) {
+    match games.split_first() {
         None => Ok(()),
-        Some(top) => {
-            push_name(alloc, store, memo, text, top.first)?;
-            push_further(alloc, store, memo, text, top.rest)
+        Some((first, others)) => {
+            push_name(alloc, arena, memo, text, *first)?;
+            push_further(alloc, arena, memo, text, others)
         }
     }
 }
 
-/// Puts the names of the games of the list at the end, each behind a comma.
+/// Puts the names of the games at the end, each behind a comma.
 #[cycle(push_name)]
-fn push_further<B: BoardForms, S: CellStore<GameFacts<B>>>(
+fn push_further(
     alloc: Global,
-    store: &mut S,
+    arena: &Arena,
     memo: &mut Memo,
     text: &mut String,
-    list: ListId,
+    games: &[u32],
 ) -> Result<(), AllocError>
-    requires list { IsList (S.state store.old) list }
-    requires memo { Recalls (S.state store.old) memo.old }
-    ensures text { OnOk result (string_bytes text.new ≡ string_bytes text.old ++ further_names
-        (of_list (listed (S.state store.old) list))) }
-    ensures in_range { OnOk result (AreNamesInRange (of_list (listed (S.state store.old) list))) }
-    ensures memo { OnOk result (Recalls (S.state store.new) memo.new) }
-    ensures spends { Spends 0 (S.state store.old) (S.state store.new) }
+    requires apart { AreApart arena.now }
+    requires games { AreIndexes arena.now games.now }
+    requires memo { Recalls arena.now memo.old }
+    ensures text { OnOk result (string_bytes text.new ≡ string_bytes text.old
+        ++ further_names (of_list (games_of arena.now games.now))) }
+    ensures in_range { OnOk result (AreNamesInRange (of_list (games_of arena.now games.now))) }
+    ensures memo { OnOk result (Recalls arena.now memo.new) }
 {
-    let mut left = list;
-    while let Some(top) = head(store, left) {
+    let mut rest = games;
+    while let Some((first, others)) = rest.split_first() {
         text.push_str(",")?;
-        push_name(alloc, store, memo, text, top.first)?;
-        left = top.rest;
+        push_name(alloc, arena, memo, text, *first)?;
+        rest = others;
     }
     Ok(())
 }

@@ -1,29 +1,28 @@
 use Rattle.std.proofs.Common.{◌+◌, ◌*◌, length, string_bytes}
 use Rattle.cg_form.specs.Size.{size, list_size}
-use Rattle.cg_nodes.specs.Games.{game_at, listed}
+use Rattle.cg_arena.specs.Arena.{game_of, games_of}
 use Rattle.cg_names.specs.Memos.{Recalls}
 use Rattle.cg_names.proofs.Names.{Written}
 use Rattle.cg_names.proofs.naming.+push_name.Given as goal
 
 abbrev pub decreases-push_name : goal.decreases-push_name
-decreases-push_name g l = 4 * size (game_at (g.S.CellStore.state l.store.now) l.handle)
+decreases-push_name l = 4 * size (game_of l.arena.now l.index)
 
 abbrev pub decreases-push_names : goal.decreases-push_names
-decreases-push_names g l = 4 * list_size (listed (g.S.CellStore.state l.store.now) l.list) + 2
+decreases-push_names l = 4 * list_size (games_of l.arena.now l.games.now) + 2
 
 abbrev pub decreases-push_further : goal.decreases-push_further
-decreases-push_further g l = 4 * list_size (listed (g.S.CellStore.state l.store.now) l.list) + 1
+decreases-push_further l = 4 * list_size (games_of l.arena.now l.games.now) + 1
 
-abbrev pub invariant-push_further-loop-top : goal.invariant-push_further-loop-top
-invariant-push_further-loop-top g l = record {
-  written : Written (g.S.CellStore.state l.initial.store) (g.S.CellStore.state l.store) (string_bytes l.initial.text)
-      (string_bytes l.text) l.initial.left l.left;
-  recalls : Recalls (g.S.CellStore.state l.store) l.memo;
+abbrev pub invariant-push_further-loop-first : goal.invariant-push_further-loop-first
+invariant-push_further-loop-first l = record {
+  written : Written l.fn.arena (string_bytes l.initial.text) (string_bytes l.text) l.fn.games l.rest;
+  recalls : Recalls l.fn.arena l.memo;
 }
 
-abbrev pub decreases-push_further-loop-top : goal.decreases-push_further-loop-top
-decreases-push_further-loop-top g l = length (listed (g.S.CellStore.state l.store) l.left)
+abbrev pub decreases-push_further-loop-first : goal.decreases-push_further-loop-first
+decreases-push_further-loop-first l = length l.rest
 
 abbrev pub decreases-push_braces : goal.decreases-push_braces
-decreases-push_braces g l = 4 * (list_size (listed (g.S.CellStore.state l.store.now) l.lefts)
-    + list_size (listed (g.S.CellStore.state l.store.now) l.rights)) + 3
+decreases-push_braces l = 4 * (list_size (games_of l.arena.now l.lefts.now)
+    + list_size (games_of l.arena.now l.rights.now)) + 3

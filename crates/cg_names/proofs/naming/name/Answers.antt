@@ -1,16 +1,14 @@
-use Rattle.std.proofs.Common.{ap, ◌∙◌, ◌++◌, string_bytes}
-use Rattle.cg_nodes.specs.Games.{game_at}
-use Rattle.cg_names.specs.Spelled.{name_of}
-use Rattle.cg_names.proofs.NameRule.{named-is}
-use Rattle.cg_names.proofs.ReadBack.{name_reads}
+use Rattle.std.proofs.Common.{ap, sym, ◌∙◌}
+use Rattle.cg_canon.specs.declared.rest.WorkRest.{WorkRest}
+use Rattle.cg_names.proofs.Returned.{spends_over}
 use Rattle.cg_names.proofs.naming.name.Goals as goal
 
-pub returns-clause-name : goal.returns-clause-name
-returns-clause-name g c =
-    named-is _ _ (c.in_ok-push_name.ensures.text
-    ∙ ap (λ z. z ++ name_of (game_at (g.S.CellStore.state c.args.store.now) c.args.handle)) c.new-text.ensures.bytes)
-
-pub returns-clause-reads : goal.returns-clause-reads
-returns-clause-reads g c opened =
-    name_reads (game_at (g.S.CellStore.state c.args.store.now) c.args.handle) (string_bytes c.push_name.new.text)
-    c.known_game.ensures.canonical (returns-clause-name g c) c.in_ok-push_name.ensures.in_range opened
+-- the work borrows the store to the end, so what the store is then is what the work had
+pub returns-clause-spends : goal.returns-clause-spends
+returns-clause-spends g c =
+    let spends = c.named-text.ensures.spends in
+    let n = sym c.new-work.ensures.same_reference
+    ∙ (sym (ap (λ (r : WorkRest _). r.name) spends.rest) ∙ sym c.into_store-store.ensures.same_reference) in
+    spends_over g.S.CellStore.state c.new-work.result c.named-text.new.work c.args.store.now c.store-1.given.0
+    c.new-work.ensures.store (c.store-1.given.1 n ∙ c.into_store-store.ensures.value) c.new-work.ensures.spent
+    c.new-work.ensures.start c.into_store-store.ensures.enough spends

@@ -1,4 +1,4 @@
-use Rattle.std.proofs.Common.{refl, sym, subst, ap, ◌∙◌, [], append-nil, Err, Ok, Result, ℕ}
+use Rattle.std.proofs.Common.{refl, sym, ap, ◌∙◌, [], append-nil, Err, Ok}
 use Rattle.std.proofs.lemmas.Result.{err_from_is_err_and}
 use Rattle.cg_names.specs.Named.{pair_positions}
 use Rattle.cg_canon.proofs.MadeSteps.{made_with}

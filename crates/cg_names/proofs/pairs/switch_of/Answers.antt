@@ -1,4 +1,4 @@
-use Rattle.std.proofs.Common.{arith, ap, sym}
+use Rattle.std.proofs.Common.{arith, ap}
 use Rattle.cg_names.specs.Named.{pair_form, pair_positions, switch_form}
 use Rattle.cg_names.proofs.PairSteps.{switch_pair, switch_positions}
 use Rattle.cg_names.proofs.Steps.{given_from, given_positions}
