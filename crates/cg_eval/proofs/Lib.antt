@@ -13,6 +13,7 @@ pub mod BoardParts
 pub mod FaultParts
 pub mod Steps
 pub mod Expressions
+pub mod ItemLists
 pub mod ListSteps
 pub mod Verdicts
 pub mod ProofTexts

@@ -60,94 +60,60 @@ evaluate-total-requires g t c =
 
 pub evaluate-returns-in-Game : goal.evaluate-returns-in-Game
 evaluate-returns-in-Game g t c =
-    let tree = ap tree_of c.in-Game.is ∙ game_tree c.in-Game.kind c.in-Game.rules c.in-Game.board in
-    let P : Tree → Type 0 = λ u. Evaluates (work_state g.S.CellStore.state c.args.work.now)
-    (work_state g.S.CellStore.state c.board_value.new.work) u c.board_value.result in
-    subst P (sym tree) (board_finds (work_state g.S.CellStore.state c.args.work.now)
-    (work_state g.S.CellStore.state c.board_value.new.work) c.in-Game.kind c.in-Game.rules c.in-Game.board
-    c.board_value.result c.board_value.ensures)
+    rw (ap tree_of c.in-Game.is ∙ game_tree c.in-Game.kind c.in-Game.rules c.in-Game.board)
+    (board_finds (work_state g.S.CellStore.state c.args.work.now) (work_state g.S.CellStore.state c.board_value.new.work) c.in-Game.kind
+    c.in-Game.rules c.in-Game.board c.board_value.result c.board_value.ensures)
 
 pub evaluate-returns-in-Octal : goal.evaluate-returns-in-Octal
 evaluate-returns-in-Octal g t c =
-    let tree = ap tree_of c.in-Octal.is ∙ octal_tree c.in-Octal.code c.in-Octal.heap in
-    let P : Tree → Type 0 = λ u. Evaluates (work_state g.S.CellStore.state c.args.work.now)
-    (work_state g.S.CellStore.state c.heap_value.new.work) u c.heap_value.result in
-    subst P (sym tree) (heap_finds (work_state g.S.CellStore.state c.args.work.now)
-    (work_state g.S.CellStore.state c.heap_value.new.work) c.in-Octal.code c.in-Octal.heap c.heap_value.result
-    c.heap_value.ensures)
+    rw (ap tree_of c.in-Octal.is ∙ octal_tree c.in-Octal.code c.in-Octal.heap)
+    (heap_finds (work_state g.S.CellStore.state c.args.work.now) (work_state g.S.CellStore.state c.heap_value.new.work) c.in-Octal.code
+    c.in-Octal.heap c.heap_value.result c.heap_value.ensures)
 
 pub evaluate-returns-in-Name : goal.evaluate-returns-in-Name
 evaluate-returns-in-Name g t c =
-    let tree = ap tree_of c.in-Name.is ∙ used_tree c.in-Name.text c.in-Name.column in
-    let P : Tree → Type 0 = λ u. Evaluates (work_state g.S.CellStore.state c.args.work.now)
-    (work_state g.S.CellStore.state c.nothing.new.work) u c.nothing.result in
-    subst P (sym tree) (used_gives (work_state g.S.CellStore.state c.args.work.now)
-    (work_state g.S.CellStore.state c.nothing.new.work) c.in-Name.text c.in-Name.column c.nothing.result c.nothing.ensures)
+    rw (ap tree_of c.in-Name.is ∙ used_tree c.in-Name.text c.in-Name.column)
+    (used_gives (work_state g.S.CellStore.state c.args.work.now) (work_state g.S.CellStore.state c.nothing.new.work) c.in-Name.text
+    c.in-Name.column c.nothing.result c.nothing.ensures)
 
 pub evaluate-returns-in-Number : goal.evaluate-returns-in-Number
 evaluate-returns-in-Number g t c =
-    let tree = ap tree_of c.in-Number.is ∙ number_tree c.in-Number.negative c.in-Number.num c.in-Number.den in
-    let P : Tree → Type 0 = λ u. Evaluates (work_state g.S.CellStore.state c.args.work.now)
-    (work_state g.S.CellStore.state c.literal.new.work) u c.literal.result in
-    subst P (sym tree) c.literal.ensures
+    rw (ap tree_of c.in-Number.is ∙ number_tree c.in-Number.negative c.in-Number.num c.in-Number.den) c.literal.ensures
 
 pub evaluate-returns-in-Ups : goal.evaluate-returns-in-Ups
 evaluate-returns-in-Ups g t c =
-    let tree = ap tree_of c.in-Ups.is ∙ ups_tree_of c.in-Ups.down c.in-Ups.count in
-    let P : Tree → Type 0 = λ u. Evaluates (work_state g.S.CellStore.state c.args.work.now)
-    (work_state g.S.CellStore.state c.named_ups.new.work) u c.named_ups.result in
-    subst P (sym tree) c.named_ups.ensures
+    rw (ap tree_of c.in-Ups.is ∙ ups_tree_of c.in-Ups.down c.in-Ups.count) c.named_ups.ensures
 
 pub evaluate-returns-in-Nimber : goal.evaluate-returns-in-Nimber
 evaluate-returns-in-Nimber g t c =
-    let tree = ap tree_of c.in-Nimber.is ∙ nimber_tree c.in-Nimber.count in
-    let P : Tree → Type 0 = λ u. Evaluates (work_state g.S.CellStore.state c.args.work.now)
-    (work_state g.S.CellStore.state c.named_nimber.new.work) u c.named_nimber.result in
-    subst P (sym tree) c.named_nimber.ensures
+    rw (ap tree_of c.in-Nimber.is ∙ nimber_tree c.in-Nimber.count) c.named_nimber.ensures
 
 pub evaluate-returns-in-Switch : goal.evaluate-returns-in-Switch
 evaluate-returns-in-Switch g t c =
-    let tree = ap tree_of c.in-Switch.is ∙ switch_tree c.in-Switch.num c.in-Switch.den in
-    let P : Tree → Type 0 = λ u. Evaluates (work_state g.S.CellStore.state c.args.work.now)
-    (work_state g.S.CellStore.state c.named_switch.new.work) u c.named_switch.result in
-    subst P (sym tree) c.named_switch.ensures
+    rw (ap tree_of c.in-Switch.is ∙ switch_tree c.in-Switch.num c.in-Switch.den) c.named_switch.ensures
 
 pub evaluate-returns-in-Tiny : goal.evaluate-returns-in-Tiny
 evaluate-returns-in-Tiny g t c =
-    let tree = ap tree_of c.in-Tiny.is ∙ tiny_tree c.in-Tiny.miny c.in-Tiny.num c.in-Tiny.den in
-    let P : Tree → Type 0 = λ u. Evaluates (work_state g.S.CellStore.state c.args.work.now)
-    (work_state g.S.CellStore.state c.named_tiny.new.work) u c.named_tiny.result in
-    subst P (sym tree) c.named_tiny.ensures
+    rw (ap tree_of c.in-Tiny.is ∙ tiny_tree c.in-Tiny.miny c.in-Tiny.num c.in-Tiny.den) c.named_tiny.ensures
 
 pub evaluate-returns-in-Braces : goal.evaluate-returns-in-Braces
 evaluate-returns-in-Braces g t c =
-    let tree = ap tree_of c.in-Braces.is ∙ braces_tree c.in-Braces.lefts c.in-Braces.rights in
-    let P : Tree → Type 0 = λ u. Evaluates (work_state g.S.CellStore.state c.args.work.now)
-    (work_state g.S.CellStore.state c.braces.new.work) u c.braces.result in
-    subst P (sym tree) c.braces.ensures
+    rw (ap tree_of c.in-Braces.is ∙ braces_tree c.in-Braces.lefts c.in-Braces.rights) c.braces.ensures
 
 pub evaluate-returns-in-Negative : goal.evaluate-returns-in-Negative
 evaluate-returns-in-Negative g t c =
-    let tree = ap tree_of c.in-Negative.is ∙ negative_tree c.in-Negative.inner ∙ ap (λ (x : Expr). trees.negative
-    (tree_of x)) (sym c.deref.ensures) in
-    let P : Tree → Type 0 = λ u. Evaluates (work_state g.S.CellStore.state c.args.work.now)
-    (work_state g.S.CellStore.state c.minus.new.work) u c.minus.result in
-    subst P (sym tree) c.minus.ensures
+    rw (ap tree_of c.in-Negative.is ∙ negative_tree c.in-Negative.inner ∙ ap (λ (x : Expr). trees.negative (tree_of x)) (sym c.deref.ensures))
+    c.minus.ensures
 
 pub evaluate-returns-in-Multiple : goal.evaluate-returns-in-Multiple
 evaluate-returns-in-Multiple g t c =
-    let tree = ap tree_of c.in-Multiple.is ∙ multiple_tree c.in-Multiple.count c.in-Multiple.inner ∙ ap (λ
-    (x : Expr). trees.multiple c.in-Multiple.count (tree_of x)) (sym c.deref-in-Multiple.ensures) in
-    let P : Tree → Type 0 = λ u. Evaluates (work_state g.S.CellStore.state c.args.work.now)
-    (work_state g.S.CellStore.state c.times.new.work) u c.times.result in
-    subst P (sym tree) c.times.ensures
+    rw (ap tree_of c.in-Multiple.is ∙ multiple_tree c.in-Multiple.count c.in-Multiple.inner
+    ∙ ap (λ (x : Expr). trees.multiple c.in-Multiple.count (tree_of x)) (sym c.deref-in-Multiple.ensures))
+    c.times.ensures
 
 pub evaluate-returns-in-Sum : goal.evaluate-returns-in-Sum
 evaluate-returns-in-Sum g t c =
-    let tree = ap tree_of c.in-Sum.is ∙ sum_tree c.in-Sum.terms in
-    let P : Tree → Type 0 = λ u. Evaluates (work_state g.S.CellStore.state c.args.work.now)
-    (work_state g.S.CellStore.state c.total.new.work) u c.total.result in
-    subst P (sym tree) c.total.ensures
+    rw (ap tree_of c.in-Sum.is ∙ sum_tree c.in-Sum.terms) c.total.ensures
 
 -- ---- evaluate_all
 
