@@ -1,4 +1,0 @@
-pub mod Canonicals
-pub mod OneKey
-pub mod Singles
-pub mod Zeros
