@@ -1,7 +1,8 @@
 -- A game is stored as a list of signs, from which it can be built again.
 use Rattle.std.specs.Prelude.{ℕ, zero, suc, ℤ, ◌⊎◌, ◌≡◌, List, [], ◌∷◌, refl}
 use Rattle.std.specs.Coded.{Coded, code_by, coded_ℕ, coded_ℤ, coded_list, coded×, coded⊎}
-use Rattle.std.proofs.Common.{inl, inr, ◌∙◌, ap}
+use mathlib.Core.Logic.{inl, inr}
+use mathlib.Core.Path.{ap, ◌∙◌}
 use Rattle.cg_dyadic.specs.Number.{Number, between, whole}
 use Rattle.cg_form.specs.Game.{Game, Games, more, none, number, options}
 

@@ -25,7 +25,7 @@ pub mod Range
 -- what `impl Model` needs
 pub mod Size
 pub mod GameCode
-pub mod Falls
+pub mod FallsLaw
 -- what private contracts cite, and those of `cuts`
 pub mod Side
 pub mod Cut

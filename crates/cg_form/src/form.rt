@@ -43,7 +43,7 @@ impl Model for Options {
 
     ghost size = { list_size };
 
-    ghost use Rattle.cg_form.specs.Falls.{most_le-list_size};
+    ghost use Rattle.cg_form.specs.FallsLaw.{most_le-list_size};
 
     ghost size_decreases = { λ a h. most_le-list_size a.items.items };
 }

@@ -10,7 +10,7 @@ use Rattle.cg_cells.specs.declared.key.KeyParts.TheVariants as key
 use Rattle.cg_cells.specs.Layout.{FieldsFit}
 use Rattle.cg_cells.proofs.Layouts.{both, both_back, lowest_true, lt_back, lt_true}
 use Rattle.cg_nodes.specs.Inverse.{long_back}
-use Rattle.cg_nodes.specs.LongKeys.{IsLongFraction, chunks_back, long_written, sign_back}
+use Rattle.cg_nodes.specs.LongKeysLaw.{IsLongFraction, chunks_back, long_written, sign_back}
 use Rattle.cg_nodes.specs.Longs.{bits_of, cells_of, chunks_of, is_long_fraction, is_long_written, is_negative, num_in}
 use Rattle.cg_nodes.specs.Meant.{Meant, form}
 use Rattle.cg_nodes.specs.Spelled.{long_of}

@@ -1,5 +1,5 @@
 -- What follows from what a key spells. These lemmas stand here since the laws of the facts rest on them.
-use Rattle.std.proofs.Common.{◌≡◌, ℕ, ◌+◌, ◌*◌, ◌^◌, Option, Some, None, List, [], ◌∷◌, Bool, true, false, refl}
+use Rattle.std.specs.Prelude.{◌≡◌, ℕ, ◌+◌, ◌*◌, ◌^◌, Option, Some, None, List, [], ◌∷◌, Bool, true, false, refl}
 use Rattle.cg_dyadic.specs.Number.{ratio}
 use Rattle.cg_form.specs.Game.{Game, number, node}
 use Rattle.cg_form.specs.Canonical.{Canonical}
@@ -9,7 +9,7 @@ use Rattle.cg_cells.specs.declared.key.KeyParts.TheVariants as key
 use Rattle.cg_nodes.specs.CanForms.{is_canonical-back}
 use Rattle.cg_nodes.specs.Meant.{Meant, form, list, contents, pair, board}
 use Rattle.cg_nodes.specs.Boards.{are_of_board}
-use Rattle.cg_nodes.specs.LongKeys.{IsLongWritten, long_written}
+use Rattle.cg_nodes.specs.LongKeysLaw.{IsLongWritten, long_written}
 use Rattle.cg_nodes.specs.Longs.{is_long_written, num_in}
 use Rattle.cg_nodes.specs.Spelled.{Map, form_in, list_in, contents_in, list_at, contents_at, longer, longer_by}
 use Rattle.cg_nodes.specs.Spelled.{form_if, game_of_lists, pair_of, board_if, board_of, long_of, spelled}

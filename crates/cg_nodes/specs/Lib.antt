@@ -8,9 +8,10 @@ pub mod Spelled
 pub mod Games
 pub mod Ranges
 -- what private contracts cite, and what proofs need here
-pub mod LongKeys
-pub mod CanForms
 pub mod Inverse
-pub mod Lawful
 pub mod Partings
 pub mod Walks
+-- what the implementation of `Facts` needs, by lemmas: that its laws hold
+pub mod LongKeysLaw
+pub mod CanForms
+pub mod KeysLaw

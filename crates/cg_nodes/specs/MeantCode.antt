@@ -1,7 +1,7 @@
 -- The code of what a cell stands for.
 use Rattle.std.specs.Prelude.{ℕ, ◌⊎◌, ◌≡◌, List, refl}
 use Rattle.std.specs.Coded.{Coded, code_by, coded_ℕ, coded_list, coded×, coded⊎}
-use Rattle.std.proofs.Common.{inl, inr}
+use mathlib.Core.Logic.{inl, inr}
 use Rattle.cg_form.specs.Game.{Game}
 use Rattle.cg_form.specs.GameCode.{game_code}
 use Rattle.cg_nodes.specs.Meant.{Meant, board, contents, form, list, pair}

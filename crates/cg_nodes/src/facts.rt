@@ -6,7 +6,7 @@ ghost use Rattle.cg_form.specs.Game.{Game, number};
 ghost use Rattle.cg_nodes.specs.Meant.{Meant};
 ghost use Rattle.cg_nodes.specs.MeantCode.{meant_code};
 ghost use Rattle.cg_nodes.specs.Spelled.{game_meaning};
-ghost use Rattle.cg_nodes.specs.Lawful.{lawful};
+ghost use Rattle.cg_nodes.specs.KeysLaw.{lawful};
 
 use cg_cells::{Divisor, Facts};
 use std::marker::{Model, PhantomData};

@@ -5,7 +5,7 @@ use Rattle.cg_form.specs.Game.{number}
 use Rattle.cg_cells.specs.Meaning.{Meaning, IsLawful}
 use Rattle.cg_nodes.specs.Meant.{Meant}
 use Rattle.cg_nodes.specs.Spelled.{game_meaning}
-use Rattle.cg_nodes.specs.Lawful.{lawful}
+use Rattle.cg_nodes.specs.KeysLaw.{lawful}
 
 -- that of games without boards, with the first cell as the home of each key
 abbrev pub one_home_meaning : Meaning Meant

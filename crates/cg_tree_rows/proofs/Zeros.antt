@@ -6,7 +6,7 @@ use Rattle.cg_cells.specs.Parts.{parts_of}
 use Rattle.cg_cells.specs.Words.{Words, IsStore, state_of}
 use Rattle.cg_cells.proofs.Layouts.{parts_of_word}
 use Rattle.cg_nodes.specs.Games.{IsGame}
-use Rattle.cg_nodes.specs.Lawful.{lawful}
+use Rattle.cg_nodes.specs.KeysLaw.{lawful}
 use Rattle.cg_nodes.specs.Meant.{form}
 use Rattle.cg_nodes.specs.Spelled.{Map, game_meaning, spelled}
 use Rattle.cg_nodes.proofs.Later.{stands_is_game}

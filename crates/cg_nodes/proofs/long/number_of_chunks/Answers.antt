@@ -2,7 +2,7 @@ use Rattle.std.proofs.Common.{◌∙◌, to_z, of_z}
 use Rattle.std.proofs.lemmas.Int.{to_z-of_z}
 use mir.Syntax.{w128}
 use Rattle.cg_nodes.proofs.LongSteps.{chunks_lowest}
-use Rattle.cg_nodes.specs.LongKeys.{IsLongFraction}
+use Rattle.cg_nodes.specs.LongKeysLaw.{IsLongFraction}
 use Rattle.cg_nodes.proofs.long.number_of_chunks.Goals as goal
 
 terms : (c : goal.After-num_in) → IsLongFraction (to_z w128 (of_z w128 c.num_in.result)) c.args.exp

@@ -13,7 +13,7 @@ use Rattle.cg_cells.specs.Meaning.{Has, IsInjective, IsLawful}
 use Rattle.cg_cells.proofs.Layouts.{kind_of, parts_word}
 use Rattle.cg_nodes.specs.Meant.{Meant, form, list, contents, pair, board}
 use Rattle.cg_nodes.specs.Spelled.{Map, list_at, contents_at, spelled, part_of, game_meaning}
-use Rattle.cg_nodes.specs.LongKeys.{IsLongWritten, chunks_back, narrow_key, sign_back}
+use Rattle.cg_nodes.specs.LongKeysLaw.{IsLongWritten, chunks_back, narrow_key, sign_back}
 use Rattle.cg_nodes.specs.Longs.{chunks_of, is_negative, num_in}
 use Rattle.cg_nodes.specs.Inverse.{Inverse, inverse, list_in-back, list_in-none, contents_in-back, contents_in-none}
 
