@@ -1,5 +1,6 @@
 """Each check of .ci/run fails on what it is there for, and on nothing to check."""
 import os
+import re
 import shlex
 import shutil
 import subprocess
@@ -459,6 +460,17 @@ class Style(Tried):
         with open(page, "w", encoding="utf-8"):
             pass
         self.fails("counts above what docs/DEVELOPING.md states", "check-style", top=top)
+
+    def test_a_specification_that_imports_a_proof(self):
+        top = self.copied("docs/DEVELOPING.md", "crates.txt", "crates/cg_dyadic")
+        page = os.path.join(top, "docs", "DEVELOPING.md")
+        with open(page, encoding="utf-8") as file:
+            text = re.sub(r"(specifications that import proofs) \| [0-9]+", r"\1 | 0", file.read())
+        with open(page, "w", encoding="utf-8") as file:
+            file.write(text)
+        with open(os.path.join(top, "crates", "cg_dyadic", "specs", "Spoilt.antt"), "w", encoding="utf-8") as file:
+            file.write("use Rattle.std.proofs.Common.{arith}\n")
+        self.fails("specifications that import proofs: 1 of at most 0", "check-style", top=top)
 
 
 class Lint(Tried):

@@ -1,6 +1,7 @@
 pub mod Rising
 pub mod Walking
 pub mod Words
+pub mod Leading
 pub mod Merging
 pub mod Gaps
 pub mod Kept
