@@ -4,6 +4,7 @@ pub mod KeyLaws
 pub mod Results
 pub mod Interning
 pub mod Slices
+pub mod Adding
 pub mod Comparing
 pub mod Against
 pub mod Bypassing

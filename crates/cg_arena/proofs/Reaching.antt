@@ -15,7 +15,7 @@ use Rattle.cg_form.proofs.Sides.{side_turned}
 use Rattle.cg_arena.specs.declared.keys.Keys.{Keys}
 use Rattle.cg_arena.specs.declared.reach.Bounds.{Bounds}
 use Rattle.cg_arena.specs.Keys.{HasKeys}
-use Rattle.cg_arena.specs.Reach.{AreBounds, IsWithin}
+use Rattle.cg_arena.specs.Reach.{AreBounds}
 use Rattle.cg_arena.specs.Undominated.{with_last}
 use Rattle.cg_arena.proofs.KeyLaws.{IsLess, as_word, below_high, below_low, high_small, is_less, low_small}
 use Rattle.cg_arena.proofs.Undominating.{among_last}

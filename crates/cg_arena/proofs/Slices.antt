@@ -1,10 +1,11 @@
 -- Searches through lists of indexes.
 use Rattle.std.proofs.Common.{◌≡◌, refl, ℕ, zero, suc, ◌+◌, ◌<◌, ◌≤◌, arith, ap, sym, ◌∙◌, List, []}
-use Rattle.std.proofs.Common.{◌∷◌, ◌++◌, take, get_or, length, Bool, true, false, not, ◌&&◌, inl, inr}
-use Rattle.std.specs.List.{Contains}
-use Rattle.std.proofs.lemmas.List.{get_or_default, map-append}
+use Rattle.std.proofs.Common.{◌∷◌, ◌++◌, ◌-◌, take, drop, get_or, length, length-append, Bool, true, false, not, ◌&&◌, inl, inr}
+use Rattle.std.specs.List.{Contains, slice_range}
+use Rattle.std.proofs.Math.Seq.{drop-append_seam, take-append_seam, take-suc}
+use Rattle.std.proofs.lemmas.List.{drop-append-le, get_or_append_left, get_or_default, length-drop, map-append, take-append-le, take_all}
 use Rattle.std.proofs.lemmas.List.Elements.{All-push, Contains-append_right, Contains-get_or}
-use Rattle.cg_form.specs.Game.{Among, Game}
+use Rattle.cg_form.specs.Game.{Among, Game, node}
 use Rattle.cg_form.specs.Order.{no_one}
 use Rattle.cg_form.specs.Size.{list_size, size}
 use Rattle.cg_arena.specs.Arena.{AreIndexes, IsIndex, game_of, games_of}
@@ -15,15 +16,10 @@ index_of_item gs ps i k a h e = rw e (a i 0 h)
 
 pub games_take_suc : (gs : List Game) (ps : List ℕ) (i d : ℕ) → i < length ps
     → games_of gs (take (suc i) ps) ≡ games_of gs (take i ps) ++ game_of gs (get_or ps i d) ∷ []
-games_take_suc gs [] i d h = absurd (omega arith)
-games_take_suc gs (k ∷ ps) zero d h = refl
-games_take_suc gs (k ∷ ps) (suc i) d h = ap (λ z. game_of gs k ∷ z) (games_take_suc gs ps i d (omega arith))
+games_take_suc gs ps i d h = ap (games_of gs) (take-suc ps i d h) ∙ map-append (game_of gs) (take i ps) (get_or ps i d ∷ [])
 
 pub games_take_all : (gs : List Game) (ps : List ℕ) (i : ℕ) → length ps ≤ i → games_of gs (take i ps) ≡ games_of gs ps
-games_take_all gs [] zero h = refl
-games_take_all gs [] (suc i) h = refl
-games_take_all gs (k ∷ ps) zero h = absurd (omega arith)
-games_take_all gs (k ∷ ps) (suc i) h = ap (λ z. game_of gs k ∷ z) (games_take_all gs ps i (omega arith))
+games_take_all gs ps i h = ap (games_of gs) (take_all i ps h)
 
 -- no index up to this one passes
 pub slice_miss : (gs : List Game) (p : Game → Bool) (ps : List ℕ) (i k : ℕ) → i < length ps → k ≡ get_or ps i 0
@@ -79,3 +75,35 @@ member_of gs (p ∷ ps) g (inr m) = let (q, k, e) = member_of gs ps g m in (q, C
 
 pub game_there : (gs : List Game) (ps : List ℕ) (p : ℕ) → Contains ps p → Among (game_of gs p) (games_of gs ps)
 game_there gs ps p m = item_among gs ps m.0 p m.1 (sym (get_or_default ps m.0 0 p m.1 ∙ m.2))
+
+-- ---- more games behind
+
+pub game_before : (gs hs : List Game) (p : ℕ) → IsIndex gs p → game_of (gs ++ hs) p ≡ game_of gs p
+game_before gs hs p h = get_or_append_left gs hs (node [] []) p h
+
+pub index_before : (gs hs : List Game) (p : ℕ) → IsIndex gs p → IsIndex (gs ++ hs) p
+index_before gs hs p h = let e = length-append gs hs in omega arith
+
+pub games_before : (gs hs : List Game) (ps : List ℕ) → AreIndexes gs ps → games_of (gs ++ hs) ps ≡ games_of gs ps
+games_before gs hs [] a = refl
+games_before gs hs (p ∷ ps) a =
+    ap (λ z. z ∷ games_of (gs ++ hs) ps) (game_before gs hs p (a zero 0 (omega arith)))
+    ∙ ap (λ z. game_of gs p ∷ z) (games_before gs hs ps (λ k d h. a (suc k) d (omega arith)))
+
+pub indexes_before : (gs hs : List Game) (ps : List ℕ) → AreIndexes gs ps → AreIndexes (gs ++ hs) ps
+indexes_before gs hs ps a = λ k d h. index_before gs hs (get_or ps k d) (a k d h)
+
+-- ---- ranges of a list
+
+pub range_before : (opts more : List ℕ) (a b : ℕ) → a ≤ b → b ≤ length opts → slice_range (opts ++ more) a b ≡ slice_range opts a b
+range_before opts more a b l h =
+    let n = length-drop a opts in
+    ap (take (b - a)) (drop-append-le a opts more (omega arith)) ∙ take-append-le (b - a) (drop a opts) more (omega arith)
+
+pub range_behind : (opts own more : List ℕ) (a b : ℕ) → a ≡ length opts → b ≡ a + length own → slice_range (opts ++ (own ++ more)) a b ≡ own
+range_behind opts own more a b e f =
+    ap (λ z. take (b - a) (drop z (opts ++ (own ++ more)))) e ∙ ap (take (b - a)) (drop-append_seam opts (own ++ more))
+    ∙ ap (λ z. take z (own ++ more)) (omega arith) ∙ take-append_seam own more
+
+pub range_none : (opts : List ℕ) (a b : ℕ) → a ≡ b → slice_range opts a b ≡ []
+range_none opts a b e = let z : b - a ≡ 0 = omega arith in ap (λ k. take k (drop a opts)) z

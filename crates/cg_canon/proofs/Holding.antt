@@ -1,5 +1,5 @@
 -- What a work keeps, as its store and its memo change.
-use Rattle.std.proofs.Common.{◌≡◌, ℕ, ◌+◌, ◌≤◌, arith, sym, subst, []}
+use Rattle.std.proofs.Common.{◌≡◌, refl, ℕ, ◌+◌, ◌≤◌, arith, sym, subst, []}
 use Rattle.std.specs.FinMap as map
 use Rattle.std.specs.Ordering.{nat_cmp}
 use Rattle.std.proofs.lemmas.List.Elements.{All-contains, All-nil, All-same, All-weaker}
@@ -15,6 +15,7 @@ use Rattle.cg_canon.specs.SumItems.{sum_items}
 use Rattle.cg_nodes.specs.Meant.{Meant}
 use Rattle.cg_nodes.proofs.Later.{game_later, is_game_later, stands_later}
 use Rattle.cg_canon.specs.declared.cache.Cache.{Cache}
+use Rattle.cg_canon.specs.declared.interner.Interner.{Interner}
 use Rattle.cg_canon.specs.declared.made.MadeForms.{MadeForms}
 use Rattle.cg_canon.specs.declared.memo.AddedSum.{AddedSum}
 use Rattle.cg_canon.specs.declared.memo.KnownSum.{KnownSum}
@@ -104,3 +105,15 @@ module _ {R : Type 0} (s : State Meant R) (h : Cache) (n : Memo) (holds : CacheH
 pub cache_forms : {R : Type 0} (s : State Meant R) (h : Cache) (m : MadeForms) → CacheHolds s h → FormsHold s m
     → CacheHolds s (record h { made = m })
 cache_forms s h m k f = record { interner = k.interner; sums = k.sums; forms = f }
+
+-- the memo has this interner and the same sums
+pub searched : {R : Type 0} (s t : State Meant R) (spent share start : ℕ) (h : Cache) (b : Interner)
+    → MeterHolds s spent share start × CacheHolds s h → Spends 0 s t → InternerHolds t b
+    → MeterHolds t spent share start
+    × CacheHolds t (record h { memo = record h.memo { interner = b } })
+searched s t spent share start h b w k holds =
+    let room = w.0.enough in
+    let later = work_later 0 s t spent share start h w k (omega arith) in (
+      later.0,
+      cache_interner t h (record h.memo { interner = b }) later.1 holds refl,
+    )

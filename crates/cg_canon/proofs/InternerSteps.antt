@@ -15,7 +15,7 @@ use Rattle.cg_arena.specs.declared.order_memo.Answer.{Answer}
 use Rattle.cg_arena.specs.declared.order_memo.OrderMemo.{OrderMemo}
 use Rattle.cg_arena.specs.Arena.{AreIndexes, IsIndex, StandFor, game_of, games_of}
 use Rattle.cg_arena.specs.OrderMemos.{AreRight, IsKept}
-use Rattle.cg_arena.proofs.Interning.{game_before, games_before, index_before, indexes_before}
+use Rattle.cg_arena.proofs.Slices.{game_before, games_before, index_before, indexes_before}
 use Rattle.cg_canon.specs.declared.interner.Interner.{Interner}
 use Rattle.cg_canon.specs.declared.recognized.Recognized.{Recognized}
 use Rattle.cg_canon.specs.Arena.{Begins, IsAt}

@@ -13,9 +13,10 @@ pub mod FormTables
 pub mod DistinctSteps
 pub mod InternerSteps
 pub mod Turning
-pub mod Valuing
 pub mod Paying
 pub mod HandleLists
+pub mod WalkPositions
+pub mod WalkPlaces
 pub mod WalkSteps
 pub mod PairSums
 pub mod MakingAt

@@ -7,10 +7,8 @@ use Rattle.cg_nodes.specs.Meant.{Meant}
 use Rattle.cg_canon.specs.declared.fault.ValueFault.{ValueFault}
 use Rattle.cg_canon.specs.declared.rest.WorkRest.{WorkRest}
 use Rattle.cg_canon.specs.Arena.{Begins, IsAt}
-use Rattle.cg_canon.specs.Items.{Item, made}
+use Rattle.cg_canon.specs.Items.{Item}
 use Rattle.cg_canon.specs.Made.{ItemsMade}
-use Rattle.cg_canon.specs.Paid.{metered}
-use Rattle.cg_canon.specs.declared.meter.Meter.{Meter}
 
 -- the item of the form was made at so much more than its own cost, and the form stands in the arena at the index; or the item was
 -- refused. The arena, gs before and hs after, only grew
@@ -21,13 +19,6 @@ pub record ItemAt {R : Type 0} (s t : State Meant (WorkRest R)) (gs hs : List Ga
   pub made : ItemsMade s t (item ∷ []) result
   pub spare : OnOk result (s.spare + extra ≤ t.spare)
   pub more : s.spare ≤ t.spare
-
--- a store and its meter, after a call that makes an item by indexes; the meter was m before, and is n after
-pub record PaidAt {R : Type 0} (s t : State Meant R) (m n : Meter) (gs hs : List Game) (form : Game) (extra : ℕ)
-    (result : Result ℕ ValueFault) : Type 0 where
-  pub item : ItemAt (metered s m) (metered t n) gs hs (made form extra) form extra result
-  pub within : n.spent ≤ n.share
-  pub fallen : t.spare ≤ s.spare
 
 -- the form is this number, where one is given
 abbrev pub IsValue : Option Number → Game → Type 0

@@ -1,13 +1,16 @@
 -- What a call that makes an item of a store has done to the store and to its meter.
-use Rattle.std.specs.Prelude.{ℕ, ◌+◌, ◌≤◌, List, Result}
+use Rattle.std.specs.Prelude.{ℕ, ◌+◌, ◌≤◌, List, Result, Ok, Err, Option, Some, None, IfOk, IfSome}
 use Rattle.cg_form.specs.Game.{Game, node}
 use Rattle.cg_cells.specs.Store.{State}
 use Rattle.cg_nodes.specs.Meant.{Meant}
 use Rattle.cg_arena.specs.declared.canonicalizing.NewForm.{NewForm}
 use Rattle.cg_arena.specs.Arena.{games_of}
 use Rattle.cg_canon.specs.declared.fault.ValueFault.{ValueFault}
+use Rattle.cg_canon.specs.declared.fault.ValueFault.TheVariants.{Memory}
+use Rattle.cg_canon.specs.declared.making.Entered.{Entered}
 use Rattle.cg_canon.specs.declared.meter.Meter.{Meter}
 use Rattle.cg_canon.specs.declared.rest.WorkRest.{WorkRest}
+use Rattle.cg_canon.specs.Arena.{Begins, IsAt}
 use Rattle.cg_canon.specs.Made.{FormGiven}
 
 -- the game of the indexes of the form
@@ -34,3 +37,25 @@ pub record IsPaid {R : Type 0} (s t : State Meant R) (m n : Meter) (form : Game)
   pub given : FormGiven (metered s m) (metered t n) form extra result
   pub within : n.spent ≤ n.share
   pub fallen : t.spare ≤ s.spare
+
+-- the handle of what was made
+abbrev pub handle_in : Result Entered ValueFault → Result ℕ ValueFault
+handle_in (Ok e) = Ok e.handle
+handle_in (Err fault) = Err fault
+
+-- an index, where there was memory for one
+abbrev pub index_or : Option ℕ → Result ℕ ValueFault
+index_or (Some i) = Ok i
+index_or None = Err Memory
+
+abbrev pub index_in : Result Entered ValueFault → Result ℕ ValueFault
+index_in (Ok e) = index_or e.index
+index_in (Err fault) = Err fault
+
+-- the item was paid for or refused, and a form that was made stands in the arena, hs, at its index, if it has one; the arena, gs before,
+-- only grew
+pub record IsEntered {R : Type 0} (s t : State Meant R) (m n : Meter) (gs hs : List Game) (form : Game) (extra : ℕ)
+    (result : Result Entered ValueFault) : Type 0 where
+  pub paid : IsPaid s t m n form extra (handle_in result)
+  pub at : IfOk result (λ e. IfSome e.index (λ i. IsAt hs i form))
+  pub begins : Begins gs hs

@@ -19,6 +19,14 @@ use cg_nodes::{BoardForms, GameFacts, Handle};
 use std::alloc::{AllocError, Global};
 
 impl<'a, B: BoardForms, S: CellStore<GameFacts<B>>> Work<'a, B, S> {
+    /// The games, each at its index.
+    #[inline(always)]
+    pub fn arena(&self) -> &Arena
+        ensures { result.now ≡ self.now.arena }
+    {
+        &self.cache.memo.interner.arena
+    }
+
     /// The index of the handle's game, which enters the arena if it isn't found there. The only error is want of
     /// memory.
     pub fn index(&mut self, alloc: Global, a: Handle) -> Result<u32, AllocError>

@@ -12,7 +12,7 @@ ghost use Rattle.cg_canon.specs.Ways.{IsWay};
 ghost use Rattle.cg_canon.specs.Works.{IsUnspent, work_state};
 
 use crate::fault::ValueFault;
-use crate::making::make_canonical;
+use crate::making_at::make_canonical;
 use crate::memo::KnownSum;
 use crate::value::Way;
 use crate::work::Work;

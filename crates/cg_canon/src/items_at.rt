@@ -11,7 +11,7 @@ ghost use Rattle.cg_canon.specs.NumberItems.{number_made};
 ghost use Rattle.cg_canon.specs.Works.{work_state};
 
 use crate::fault::ValueFault;
-use crate::making_at::{given_at, known_at, number_at, sum_at};
+use crate::making_at::{canonical_at, given_at, known_at, made_index, number_at};
 use crate::work::Work;
 use cg_arena::FirstTerm;
 use cg_cells::CellStore;
@@ -33,13 +33,13 @@ impl<'a, B: BoardForms, S: CellStore<GameFacts<B>>> Work<'a, B, S> {
         ensures own { IfOk result (λ i. i ≡ index) }
         ensures arena { self.new.arena ≡ self.old.arena }
     {
-        known_at(
+        made_index(known_at(
             &*self.store,
             &self.cache.memo.interner,
             &mut self.meter,
             index,
             extra,
-        )
+        ))
     }
 
     /// Makes the item of a number, with a cost of `extra` more, where `extra` is at most 8. None stands for a number
@@ -53,13 +53,13 @@ impl<'a, B: BoardForms, S: CellStore<GameFacts<B>>> Work<'a, B, S> {
             self.old.arena self.new.arena (number_made x extra) form extra result }
     {
         match x {
-            Some(value) => number_at(
+            Some(value) => made_index(number_at(
                 self.store,
                 &mut self.cache.memo.interner,
                 &mut self.meter,
                 value,
                 extra,
-            ),
+            )),
             None => Err(ValueFault::Range),
         }
     }
@@ -80,7 +80,7 @@ impl<'a, B: BoardForms, S: CellStore<GameFacts<B>>> Work<'a, B, S> {
         ensures { let g = node (games_of self.old.arena lefts.now) (games_of self.old.arena rights.now) in
             ItemAt (work_state S.state self.old) (work_state S.state self.new) self.old.arena self.new.arena (made g extra) g extra result }
     {
-        given_at(
+        made_index(given_at(
             alloc,
             self.store,
             &mut self.cache.memo.interner,
@@ -88,7 +88,7 @@ impl<'a, B: BoardForms, S: CellStore<GameFacts<B>>> Work<'a, B, S> {
             lefts,
             rights,
             extra,
-        )
+        ))
     }
 
     /// Makes the item of the canonical form of a sum, by the indexes of its options, with a cost of `extra` more, where
@@ -113,15 +113,15 @@ impl<'a, B: BoardForms, S: CellStore<GameFacts<B>>> Work<'a, B, S> {
         ensures { let g = can (node (games_of self.old.arena lefts.now) (games_of self.old.arena rights.now)) in
             ItemAt (work_state S.state self.old) (work_state S.state self.new) self.old.arena self.new.arena (made g extra) g extra result }
     {
-        sum_at(
+        made_index(canonical_at(
             alloc,
             self.store,
             &mut self.cache.memo.interner,
             &mut self.meter,
             lefts,
             rights,
-            first_term,
+            Some(first_term),
             extra,
-        )
+        ))
     }
 }

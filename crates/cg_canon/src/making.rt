@@ -1,29 +1,33 @@
 //! Items of the games of lists of handles, made beside the interner of their work.
-ghost use Rattle.std.specs.Prelude.{◌≡◌, ◌+◌, ◌≤◌, ℕ, length};
+ghost use Rattle.std.specs.Prelude.{◌≡◌, ◌+◌, ◌≤◌, ℕ, length, IfSome};
 ghost use Rattle.cg_form.specs.Canonical.{Canonical};
 ghost use Rattle.cg_form.specs.Game.{node, number};
 ghost use Rattle.cg_cells.specs.Store.{Spends};
-ghost use Rattle.cg_nodes.specs.Can.{can};
 ghost use Rattle.cg_nodes.specs.Games.{AreGames, IsGame, ListsAs, StandsFor, game_at, games_at};
 ghost use Rattle.cg_arena.specs.Arena.{games_of};
 ghost use Rattle.cg_arena.specs.Canonicalized.{IsNewForm};
-ghost use Rattle.cg_canon.specs.Arena.{Begins};
+ghost use Rattle.cg_canon.specs.Arena.{Begins, IsAt};
 ghost use Rattle.cg_canon.specs.Interners.{InternerHolds};
-ghost use Rattle.cg_canon.specs.Paid.{IsPaid, MayPay, written};
-ghost use Rattle.cg_canon.specs.Ways.{IsWay};
+ghost use Rattle.cg_canon.specs.Paid.{IsEntered, IsPaid, MayPay, written};
 
 use crate::entering::enter_game;
 use crate::fault::ValueFault;
 use crate::interner::{Interner, put_handles};
 use crate::made::are_same;
 use crate::meter::Meter;
-use crate::value::{Way, value_of_lists};
-use cg_arena::{Canonicalized, NewForm, Summary};
+use cg_arena::{NewForm, Summary};
 use cg_cells::CellStore;
 use cg_dyadic::Dyadic;
 use cg_nodes::{BoardForms, GameFacts, Handle, ListId, game, list, number, prefetch_game};
 use smallvec::SmallVec;
 use std::alloc::Global;
+
+/// A form that was made: its handle, and its index, where there was memory to enter it in the arena.
+#[derive(Clone, Copy)]
+pub(crate) struct Entered {
+    pub handle: Handle,
+    pub index: Option<u32>,
+}
 
 /// Enters the form that was made, with this handle, unless it is there or there is no memory for it.
 fn enter_form<B: BoardForms, S: CellStore<GameFacts<B>>>(
@@ -31,17 +35,21 @@ fn enter_form<B: BoardForms, S: CellStore<GameFacts<B>>>(
     interner: &mut Interner,
     handle: Handle,
     new: &NewForm,
-)
+) -> Option<u32>
     requires holds { InternerHolds (S.state store.now) interner.old }
     requires game { IsGame (S.state store.now) handle }
     requires canonical { Canonical (game_at (S.state store.now) handle) }
     requires form { IsNewForm interner.old.arena (game_at (S.state store.now) handle) new.now }
     ensures holds { InternerHolds (S.state store.now) interner.new }
     ensures begins { Begins interner.old.arena interner.new.arena }
+    ensures index { IfSome result (λ i. IsAt interner.new.arena i (game_at (S.state store.now) handle)) }
 {
     let lefts = new.form.lefts.as_slice();
     let rights = new.form.rights.as_slice();
-    let _entered = enter_game(store, interner, handle, lefts, rights, &new.summary);
+    match enter_game(store, interner, handle, lefts, rights, &new.summary) {
+        Ok(index) => Some(index),
+        Err(_) => None,
+    }
 }
 
 /// The list of the Right options, where that of the Left options was made. The same options have the same list, as
@@ -85,14 +93,14 @@ fn claimed_game<B: BoardForms, S: CellStore<GameFacts<B>>>(
     game(store, left_list, right_list)
 }
 
-/// The handle of the form, whose options have these handles. It is entered in the interner.
+/// Claims the form, whose options have these handles, and enters it in the interner.
 fn claimed<B: BoardForms, S: CellStore<GameFacts<B>>>(
     store: &mut S,
     interner: &mut Interner,
     lefts: &[Handle],
     rights: &[Handle],
     new: &NewForm,
-) -> Handle
+) -> Entered
     requires holds { InternerHolds (S.state store.old) interner.old }
     requires form { IsNewForm interner.old.arena (written interner.old.arena new.now) new.now }
     requires canonical { Canonical (written interner.old.arena new.now) }
@@ -105,12 +113,13 @@ fn claimed<B: BoardForms, S: CellStore<GameFacts<B>>>(
         new.now.form.rights.items }
     ensures holds { InternerHolds (S.state store.new) interner.new }
     ensures begins { Begins interner.old.arena interner.new.arena }
-    ensures game { StandsFor (S.state store.new) result (written interner.old.arena new.now) }
+    ensures game { StandsFor (S.state store.new) result.handle (written interner.old.arena new.now) }
+    ensures index { IfSome result.index (λ i. IsAt interner.new.arena i (written interner.old.arena new.now)) }
     ensures spends { (n : ℕ) × (n ≤ new.now.summary.cost) × Spends n (S.state store.old) (S.state store.new) }
 {
     let handle = claimed_game(store, lefts, rights);
-    enter_form(&*store, interner, handle, new);
-    handle
+    let index = enter_form(&*store, interner, handle, new);
+    Entered { handle, index }
 }
 
 /// Makes the item of the canonical form that was found, with a cost of `extra` more.
@@ -122,15 +131,15 @@ pub(crate) fn make_form<B: BoardForms, S: CellStore<GameFacts<B>>>(
     meter: &mut Meter,
     new: &NewForm,
     extra: u64,
-) -> Result<Handle, ValueFault>
+) -> Result<Entered, ValueFault>
     requires extra { extra ≤ 8 }
     requires holds { InternerHolds (S.state store.old) interner.old }
     requires form { IsNewForm interner.old.arena (written interner.old.arena new.now) new.now }
     requires canonical { Canonical (written interner.old.arena new.now) }
     requires meter { MayPay (S.state store.old) meter.old }
     ensures holds { InternerHolds (S.state store.new) interner.new }
-    ensures begins { Begins interner.old.arena interner.new.arena }
-    ensures paid { IsPaid (S.state store.old) (S.state store.new) meter.old meter.new (written interner.old.arena new.now) extra result }
+    ensures entered { IsEntered (S.state store.old) (S.state store.new) meter.old meter.new interner.old.arena interner.new.arena
+        (written interner.old.arena new.now) extra result }
 {
     let mut lefts = SmallVec::new(alloc);
     put_handles(&*store, interner, new.form.lefts.as_slice(), &mut lefts)?;
@@ -153,33 +162,4 @@ pub(crate) fn make_number<B: BoardForms, S: CellStore<GameFacts<B>>>(
 {
     meter.charge_form(&Summary::number(x), extra)?;
     Ok(number(store, x))
-}
-
-/// Makes the item of the canonical form of the game with these options, with a cost of `extra` more.
-pub(crate) fn make_canonical<B: BoardForms, S: CellStore<GameFacts<B>>>(
-    alloc: Global,
-    store: &mut S,
-    interner: &mut Interner,
-    meter: &mut Meter,
-    lefts: &[Handle],
-    rights: &[Handle],
-    way: Way,
-    extra: u64,
-) -> Result<Handle, ValueFault>
-    requires extra { extra ≤ 8 }
-    requires holds { InternerHolds (S.state store.old) interner.old }
-    requires lefts { AreGames (S.state store.old) lefts.now }
-    requires rights { AreGames (S.state store.old) rights.now }
-    requires way { IsWay way (games_at (S.state store.old) lefts.now) (games_at (S.state store.old) rights.now) }
-    requires meter { MayPay (S.state store.old) meter.old }
-    ensures holds { InternerHolds (S.state store.new) interner.new }
-    ensures paid { IsPaid (S.state store.old) (S.state store.new) meter.old meter.new
-        (can (node (games_at (S.state store.old) lefts.now) (games_at (S.state store.old) rights.now))) extra result }
-{
-    let canonicalized = value_of_lists(alloc, store, interner, lefts, rights, way)?;
-    match canonicalized {
-        Canonicalized::Number(x) => make_number(store, meter, x, extra),
-        Canonicalized::Outside => Err(ValueFault::Range),
-        Canonicalized::Game(new) => make_form(alloc, store, interner, meter, &new, extra),
-    }
 }

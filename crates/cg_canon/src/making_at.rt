@@ -1,24 +1,26 @@
 //! Items of forms by the indexes of the arena of their work.
-ghost use Rattle.std.specs.Prelude.{◌≡◌, ◌≤◌, IfOk};
+ghost use Rattle.std.specs.Prelude.{◌≡◌, ◌≤◌, IfOk, Some};
 ghost use Rattle.cg_form.specs.Canonical.{Canonical};
 ghost use Rattle.cg_form.specs.Game.{node, number};
 ghost use Rattle.cg_nodes.specs.Can.{can};
+ghost use Rattle.cg_nodes.specs.Games.{AreGames, games_at};
 ghost use Rattle.cg_arena.specs.Arena.{AreIndexes, IsIndex, game_of, games_of};
 ghost use Rattle.cg_arena.specs.Canonicalized.{IsNewForm};
-ghost use Rattle.cg_arena.specs.Terms.{NoneComparableByTerm};
+ghost use Rattle.cg_arena.specs.Terms.{ApartByTerm};
 ghost use Rattle.cg_canon.specs.Interners.{InternerHolds};
-ghost use Rattle.cg_canon.specs.ItemsAt.{PaidAt};
-ghost use Rattle.cg_canon.specs.Paid.{MayPay, written};
+ghost use Rattle.cg_canon.specs.Ways.{IsWay};
+ghost use Rattle.cg_canon.specs.Paid.{IsEntered, IsPaid, MayPay, handle_in, index_in, written};
 
 use crate::entering::enter_number;
 use crate::fault::ValueFault;
 use crate::interner::Interner;
-use crate::making::{make_form, make_number};
+use crate::making::{Entered, make_form, make_number};
 use crate::meter::Meter;
+use crate::value::{Way, put_both};
 use cg_arena::{Canonicalized, FirstTerm, Form, NewForm, canonicalize, summary_of_lists};
 use cg_cells::CellStore;
 use cg_dyadic::Dyadic;
-use cg_nodes::{BoardForms, GameFacts};
+use cg_nodes::{BoardForms, GameFacts, Handle};
 use smallvec::SmallVec;
 use std::alloc::Global;
 
@@ -31,19 +33,22 @@ pub(crate) fn known_at<B: BoardForms, S: CellStore<GameFacts<B>>>(
     meter: &mut Meter,
     index: u32,
     extra: u64,
-) -> Result<u32, ValueFault>
+) -> Result<Entered, ValueFault>
     requires extra { extra ≤ 8 }
+    requires holds { InternerHolds (S.state store.now) interner.now }
     requires index { IsIndex interner.now.arena index }
     requires meter { MayPay (S.state store.now) meter.old }
-    ensures paid { PaidAt (S.state store.now) (S.state store.now) meter.old meter.new interner.now.arena
-        interner.now.arena
+    ensures entered { IsEntered (S.state store.now) (S.state store.now) meter.old meter.new interner.now.arena interner.now.arena
         (game_of interner.now.arena index) extra result }
-    ensures own { IfOk result (λ i. i ≡ index) }
+    ensures own { IfOk result (λ e. e.index ≡ Some index) }
 {
     // Read for the proof alone: what the meter may pay is what the store has to spare.
     let _ = store;
     meter.charge_form(interner.arena.summary(index), extra)?;
-    Ok(index)
+    Ok(Entered {
+        handle: interner.handle(index),
+        index: Some(index),
+    })
 }
 
 /// Makes the item of a number in range, with a cost of `extra` more.
@@ -53,18 +58,24 @@ pub(crate) fn number_at<B: BoardForms, S: CellStore<GameFacts<B>>>(
     meter: &mut Meter,
     x: Dyadic,
     extra: u64,
-) -> Result<u32, ValueFault>
+) -> Result<Entered, ValueFault>
     requires extra { extra ≤ 8 }
     requires holds { InternerHolds (S.state store.old) interner.old }
     requires meter { MayPay (S.state store.old) meter.old }
     ensures holds { InternerHolds (S.state store.new) interner.new }
-    ensures paid { PaidAt (S.state store.old) (S.state store.new) meter.old meter.new interner.old.arena interner.new.arena (number x) extra result }
+    ensures entered { IsEntered (S.state store.old) (S.state store.new) meter.old meter.new interner.old.arena interner.new.arena (number x) extra result }
 {
     match make_number(store, meter, x, extra) {
         Err(fault) => Err(fault),
         Ok(handle) => match enter_number(&*store, interner, handle, x) {
-            Ok(index) => Ok(index),
-            Err(_) => Err(ValueFault::Memory),
+            Ok(index) => Ok(Entered {
+                handle,
+                index: Some(index),
+            }),
+            Err(_) => Ok(Entered {
+                handle,
+                index: None,
+            }),
         },
     }
 }
@@ -77,15 +88,14 @@ fn new_at<B: BoardForms, S: CellStore<GameFacts<B>>>(
     meter: &mut Meter,
     new: &NewForm,
     extra: u64,
-) -> Result<u32, ValueFault>
+) -> Result<Entered, ValueFault>
     requires extra { extra ≤ 8 }
     requires holds { InternerHolds (S.state store.old) interner.old }
     requires form { IsNewForm interner.old.arena (written interner.old.arena new.now) new.now }
     requires canonical { Canonical (written interner.old.arena new.now) }
     requires meter { MayPay (S.state store.old) meter.old }
     ensures holds { InternerHolds (S.state store.new) interner.new }
-    ensures paid { PaidAt (S.state store.old) (S.state store.new) meter.old meter.new interner.old.arena
-        interner.new.arena
+    ensures entered { IsEntered (S.state store.old) (S.state store.new) meter.old meter.new interner.old.arena interner.new.arena
         (written interner.old.arena new.now) extra result }
 {
     if let Some(index) = interner.index_of_form(
@@ -94,13 +104,7 @@ fn new_at<B: BoardForms, S: CellStore<GameFacts<B>>>(
     ) {
         return known_at(&*store, interner, meter, index, extra);
     }
-    match make_form(alloc, store, interner, meter, new, extra) {
-        Err(fault) => Err(fault),
-        Ok(handle) => match interner.index(handle) {
-            Some(index) => Ok(index),
-            None => Err(ValueFault::Memory),
-        },
-    }
+    make_form(alloc, store, interner, meter, new, extra)
 }
 
 /// Makes the item of a game that is canonical as it is given, with a cost of `extra` more.
@@ -112,7 +116,7 @@ pub(crate) fn given_at<B: BoardForms, S: CellStore<GameFacts<B>>>(
     lefts: &[u32],
     rights: &[u32],
     extra: u64,
-) -> Result<u32, ValueFault>
+) -> Result<Entered, ValueFault>
     requires extra { extra ≤ 8 }
     requires holds { InternerHolds (S.state store.old) interner.old }
     requires lefts { AreIndexes interner.old.arena lefts.now }
@@ -121,8 +125,7 @@ pub(crate) fn given_at<B: BoardForms, S: CellStore<GameFacts<B>>>(
         (games_of interner.old.arena rights.now)) }
     requires meter { MayPay (S.state store.old) meter.old }
     ensures holds { InternerHolds (S.state store.new) interner.new }
-    ensures paid { PaidAt (S.state store.old) (S.state store.new) meter.old meter.new interner.old.arena
-        interner.new.arena
+    ensures entered { IsEntered (S.state store.old) (S.state store.new) meter.old meter.new interner.old.arena interner.new.arena
         (node (games_of interner.old.arena lefts.now) (games_of interner.old.arena rights.now)) extra result }
 {
     if let Some(index) = interner.index_of_form(lefts, rights) {
@@ -133,7 +136,7 @@ pub(crate) fn given_at<B: BoardForms, S: CellStore<GameFacts<B>>>(
         lefts: SmallVec::from_slice(alloc, lefts)?,
         rights: SmallVec::from_slice(alloc, rights)?,
     };
-    new_at(
+    make_form(
         alloc,
         store,
         interner,
@@ -143,27 +146,27 @@ pub(crate) fn given_at<B: BoardForms, S: CellStore<GameFacts<B>>>(
     )
 }
 
-/// Makes the item of the canonical form of a sum with these options, with a cost of `extra` more.
-pub(crate) fn sum_at<B: BoardForms, S: CellStore<GameFacts<B>>>(
+/// Makes the item of the canonical form of the game with these options, with a cost of `extra` more. Where so many
+/// options of each side are told, these come from one term of a sum, and the others from the other.
+pub(crate) fn canonical_at<B: BoardForms, S: CellStore<GameFacts<B>>>(
     alloc: Global,
     store: &mut S,
     interner: &mut Interner,
     meter: &mut Meter,
     lefts: &[u32],
     rights: &[u32],
-    first_term: FirstTerm,
+    first_term: Option<FirstTerm>,
     extra: u64,
-) -> Result<u32, ValueFault>
+) -> Result<Entered, ValueFault>
     requires extra { extra ≤ 8 }
     requires holds { InternerHolds (S.state store.old) interner.old }
     requires lefts { AreIndexes interner.old.arena lefts.now }
     requires rights { AreIndexes interner.old.arena rights.now }
-    requires lefts_apart { NoneComparableByTerm first_term.lefts (games_of interner.old.arena lefts.now) }
-    requires rights_apart { NoneComparableByTerm first_term.rights (games_of interner.old.arena rights.now) }
+    requires terms { ApartByTerm first_term (games_of interner.old.arena lefts.now)
+        (games_of interner.old.arena rights.now) }
     requires meter { MayPay (S.state store.old) meter.old }
     ensures holds { InternerHolds (S.state store.new) interner.new }
-    ensures paid { PaidAt (S.state store.old) (S.state store.new) meter.old meter.new interner.old.arena
-        interner.new.arena
+    ensures entered { IsEntered (S.state store.old) (S.state store.new) meter.old meter.new interner.old.arena interner.new.arena
         (can (node (games_of interner.old.arena lefts.now) (games_of interner.old.arena rights.now))) extra result }
 {
     let canonicalized = canonicalize(
@@ -171,11 +174,76 @@ pub(crate) fn sum_at<B: BoardForms, S: CellStore<GameFacts<B>>>(
         &mut interner.answers,
         lefts,
         rights,
-        Some(first_term),
+        first_term,
     )?;
     match canonicalized {
         Canonicalized::Number(x) => number_at(store, interner, meter, x, extra),
         Canonicalized::Outside => Err(ValueFault::Range),
         Canonicalized::Game(new) => new_at(alloc, store, interner, meter, &new, extra),
+    }
+}
+
+/// The index of what was made. Where there was no memory to enter it there is none.
+#[inline(always)]
+pub(crate) fn made_index(made: Result<Entered, ValueFault>) -> Result<u32, ValueFault>
+    ensures { result ≡ index_in made }
+{
+    match made {
+        Ok(entered) => match entered.index {
+            Some(index) => Ok(index),
+            None => Err(ValueFault::Memory),
+        },
+        Err(fault) => Err(fault),
+    }
+}
+
+/// The handle of what was made.
+#[inline(always)]
+fn made_handle(made: Result<Entered, ValueFault>) -> Result<Handle, ValueFault>
+    ensures { result ≡ handle_in made }
+{
+    match made {
+        Ok(entered) => Ok(entered.handle),
+        Err(fault) => Err(fault),
+    }
+}
+
+/// Makes the item of the canonical form of the game with these options, with a cost of `extra` more.
+pub(crate) fn make_canonical<B: BoardForms, S: CellStore<GameFacts<B>>>(
+    alloc: Global,
+    store: &mut S,
+    interner: &mut Interner,
+    meter: &mut Meter,
+    lefts: &[Handle],
+    rights: &[Handle],
+    way: Way,
+    extra: u64,
+) -> Result<Handle, ValueFault>
+    requires extra { extra ≤ 8 }
+    requires holds { InternerHolds (S.state store.old) interner.old }
+    requires lefts { AreGames (S.state store.old) lefts.now }
+    requires rights { AreGames (S.state store.old) rights.now }
+    requires way { IsWay way (games_at (S.state store.old) lefts.now) (games_at (S.state store.old) rights.now) }
+    requires meter { MayPay (S.state store.old) meter.old }
+    ensures holds { InternerHolds (S.state store.new) interner.new }
+    ensures paid { IsPaid (S.state store.old) (S.state store.new) meter.old meter.new
+        (can (node (games_at (S.state store.old) lefts.now) (games_at (S.state store.old) rights.now))) extra result }
+{
+    let mut both = Form::new(alloc);
+    put_both(alloc, store, interner, lefts, rights, &mut both)?;
+    let low = both.lefts.as_slice();
+    let high = both.rights.as_slice();
+    match way {
+        Way::Search => made_handle(canonical_at(
+            alloc, store, interner, meter, low, high, None, extra,
+        )),
+        Way::AsGiven => {
+            let summary = summary_of_lists(&interner.arena, low, high);
+            let new = NewForm {
+                form: both,
+                summary,
+            };
+            made_handle(make_form(alloc, store, interner, meter, &new, extra))
+        }
     }
 }

@@ -1,18 +1,14 @@
 //! What games of lists of handles are, by the indexes of an interner.
 ghost use Rattle.std.specs.Prelude.{◌≡◌, IfOk, []};
-ghost use Rattle.cg_form.specs.Game.{node};
 ghost use Rattle.cg_cells.specs.Store.{Spends};
-ghost use Rattle.cg_nodes.specs.Can.{can};
 ghost use Rattle.cg_nodes.specs.Games.{AreGames, games_at};
 ghost use Rattle.cg_arena.specs.Arena.{StandFor};
-ghost use Rattle.cg_arena.specs.Canonicalized.{IsCanonicalized};
 ghost use Rattle.cg_canon.specs.Interners.{InternerHolds};
-ghost use Rattle.cg_canon.specs.Ways.{IsWay};
 
 use crate::indexing::put_indexes;
 use crate::interner::Interner;
 use crate::made::are_same;
-use cg_arena::{Canonicalized, Form, NewForm, canonicalize, summary_of_lists};
+use cg_arena::Form;
 use cg_cells::CellStore;
 use cg_nodes::{BoardForms, GameFacts, Handle};
 use smallvec::SmallVec;
@@ -21,7 +17,7 @@ use std::alloc::{AllocError, Global};
 /// Puts the indexes of two lists of options into a form that has none. Both lists of a nimber are the same, and are
 /// gone through once.
 #[inline(always)]
-fn put_both<B: BoardForms, S: CellStore<GameFacts<B>>>(
+pub(crate) fn put_both<B: BoardForms, S: CellStore<GameFacts<B>>>(
     alloc: Global,
     store: &mut S,
     interner: &mut Interner,
@@ -55,38 +51,4 @@ pub(crate) enum Way {
     Search,
     /// It is the game as it stands.
     AsGiven,
-}
-
-/// What the game with these options is. The only error is want of memory.
-pub(crate) fn value_of_lists<B: BoardForms, S: CellStore<GameFacts<B>>>(
-    alloc: Global,
-    store: &mut S,
-    interner: &mut Interner,
-    lefts: &[Handle],
-    rights: &[Handle],
-    way: Way,
-) -> Result<Canonicalized, AllocError>
-    requires holds { InternerHolds (S.state store.old) interner.old }
-    requires lefts { AreGames (S.state store.old) lefts.now }
-    requires rights { AreGames (S.state store.old) rights.now }
-    requires way { IsWay way (games_at (S.state store.old) lefts.now) (games_at (S.state store.old) rights.now) }
-    ensures holds { InternerHolds (S.state store.new) interner.new }
-    ensures value { IfOk result (IsCanonicalized interner.new.arena
-        (can (node (games_at (S.state store.old) lefts.now) (games_at (S.state store.old) rights.now)))) }
-    ensures spends { Spends 0 (S.state store.old) (S.state store.new) }
-{
-    let mut both = Form::new(alloc);
-    put_both(alloc, store, interner, lefts, rights, &mut both)?;
-    let lefts = both.lefts.as_slice();
-    let rights = both.rights.as_slice();
-    match way {
-        Way::Search => canonicalize(&interner.arena, &mut interner.answers, lefts, rights, None),
-        Way::AsGiven => {
-            let summary = summary_of_lists(&interner.arena, lefts, rights);
-            Ok(Canonicalized::Game(NewForm {
-                form: both,
-                summary,
-            }))
-        }
-    }
 }

@@ -3,7 +3,7 @@ use Rattle.std.proofs.Common.{◌≡◌, ℕ, ◌+◌, ◌≤◌, arith, refl, a
 use Rattle.std.specs.Result.{result_ok}
 use Rattle.cg_canon.proofs.InternerSteps.{begins_then}
 use Rattle.cg_canon.proofs.MadeSteps.{read_then, then_read}
-use Rattle.cg_canon.specs.Arena.{Begins, IsAt}
+use Rattle.cg_canon.specs.Arena.{Begins}
 use Rattle.cg_canon.specs.Items.{Item, made, outside}
 use Rattle.cg_canon.specs.ItemsAt.{IsValue, ItemAt}
 use Rattle.cg_canon.specs.Made.{ItemsMade}

@@ -1,5 +1,5 @@
 pub mod Sums
-pub mod Walks
+pub mod WrittenOptions
 pub mod Tables
 pub mod Makings
 pub mod Loops

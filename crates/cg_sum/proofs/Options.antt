@@ -1,5 +1,5 @@
 -- The options of a sum and of a negative, as the table has them.
-use Rattle.std.proofs.Common.{◌≡◌, ◌⊎◌, ℕ, ◌+◌, ◌*◌, ◌<◌, ◌≤◌, arith, refl, ap, sym, ◌∙◌, subst, List, ◌++◌, get_or, length, map}
+use Rattle.std.proofs.Common.{◌≡◌, ◌⊎◌, ℕ, ◌+◌, ◌*◌, ◌<◌, arith, refl, ap, sym, ◌∙◌, subst, List, ◌++◌, get_or, length, map}
 use Rattle.std.proofs.lemmas.List.{length-map, map-append}
 use Rattle.std.proofs.lemmas.Simd.{map-map}
 use Rattle.std.proofs.lemmas.List.Elements.{All-append}
@@ -20,7 +20,8 @@ use Rattle.cg_sum.specs.declared.terms.Terms.{Terms}
 use Rattle.cg_sum.proofs.Incomparable.{lefts_apart, negative_apart, rights_apart, sum_apart}
 use Rattle.cg_sum.proofs.Sums.{IsNumber, can-negative_written, can-sum_written, option_forms, sum_written-canonical}
 use Rattle.cg_sum.proofs.Tables.{at_place, before_row, stand_mapped, sum_placed}
-use Rattle.cg_sum.proofs.Walks as walks
+use Rattle.cg_canon.proofs.WalkPositions as walks
+use Rattle.cg_sum.proofs.WrittenOptions.{lefts_written, rights_written}
 
 stand_append : (gs : List Game) (ps qs : List ℕ) (fs ks : List Game) → StandFor gs ps fs → StandFor gs qs ks
     → StandFor gs (ps ++ qs) (fs ++ ks)
@@ -81,10 +82,10 @@ module _ (gs : List Game) (terms : Terms) (games : List Game × List Game) (row 
       second = walks.place gs terms.seconds games.1 ready.placed.seconds column k ready.placed.within_columns isk
 
       first_lefts : games_of games.0 (lefts_of terms.firsts.options.items f) ≡ written_lefts g
-      first_lefts = walks.lefts_written gs terms.firsts games.0 ready.placed.firsts row f ready.placed.within_rows isf
+      first_lefts = lefts_written gs terms.firsts games.0 ready.placed.firsts row f ready.placed.within_rows isf
 
       first_rights : games_of games.0 (rights_of terms.firsts.options.items f) ≡ written_rights g
-      first_rights = walks.rights_written gs terms.firsts games.0 ready.placed.firsts row f ready.placed.within_rows isf
+      first_rights = rights_written gs terms.firsts games.0 ready.placed.firsts row f ready.placed.within_rows isf
 
       canonical_first : Canonical g
       canonical_first = walks.canonical gs terms.firsts games.0 ready.placed.firsts row f ready.placed.within_rows isf
@@ -96,14 +97,14 @@ module _ (gs : List Game) (terms : Terms) (games : List Game × List Game) (row 
       lefts_stand =
           stand_as gs _ _ _ _ l (ap (λ z. option_forms g h z (games_of games.1 (lefts_of terms.seconds.options.items k))) first_lefts
           ∙ ap (option_forms g h (written_lefts g))
-          (walks.lefts_written gs terms.seconds games.1 ready.placed.seconds column k ready.placed.within_columns isk))
+          (lefts_written gs terms.seconds games.1 ready.placed.seconds column k ready.placed.within_columns isk))
           (stand_append gs _ _ _ _ (firsts_stand _ first.lefts_before) (seconds_stand _ second.lefts_before))
 
       rights_stand : StandFor gs right (option_forms g h (written_rights g) (written_rights h))
       rights_stand =
           stand_as gs _ _ _ _ r (ap (λ z. option_forms g h z (games_of games.1 (rights_of terms.seconds.options.items k))) first_rights
           ∙ ap (option_forms g h (written_rights g))
-          (walks.rights_written gs terms.seconds games.1 ready.placed.seconds column k ready.placed.within_columns isk))
+          (rights_written gs terms.seconds games.1 ready.placed.seconds column k ready.placed.within_columns isk))
           (stand_append gs _ _ _ _ (firsts_stand _ first.rights_before) (seconds_stand _ second.rights_before))
 
       pub lefts_are : AreIndexes gs left
@@ -157,10 +158,10 @@ module _ (gs : List Game) (walk : Walk) (games : List Game) (is : IsWalk gs walk
     own = walks.place gs walk games is place f within isf
 
     own_rights : games_of games (rights_of walk.options.items f) ≡ written_rights f_at
-    own_rights = walks.rights_written gs walk games is place f within isf
+    own_rights = rights_written gs walk games is place f within isf
 
     own_lefts : games_of games (lefts_of walk.options.items f) ≡ written_lefts f_at
-    own_lefts = walks.lefts_written gs walk games is place f within isf
+    own_lefts = lefts_written gs walk games is place f within isf
 
     own_canonical : Canonical f_at
     own_canonical = walks.canonical gs walk games is place f within isf

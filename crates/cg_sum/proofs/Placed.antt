@@ -12,7 +12,7 @@ use Rattle.cg_sum.specs.Progress.{ArePlaced, IsReady, sum_at_place}
 use Rattle.cg_sum.specs.declared.terms.Terms.{Terms}
 use Rattle.cg_sum.proofs.Sums.{IsNumber, can-sum_comm, can-sum_zero}
 use Rattle.cg_sum.proofs.Tables.{holds_later}
-use Rattle.cg_sum.proofs.Walks as walks
+use Rattle.cg_canon.proofs.WalkPositions as walks
 
 pub placed_later : (gs hs : List Game) → Begins gs hs → (terms : Terms) (games : List Game × List Game) (row column : ℕ)
     → ArePlaced gs terms games row column → ArePlaced hs terms games row column

@@ -1,7 +1,7 @@
 -- The own list of a sum, whole or too long, and the sum at its end.
 use Rattle.std.proofs.Common.{◌≡◌, ◌⊎◌, inl, inr, ℕ, zero, suc, ◌+◌, ◌-◌, ◌*◌, ◌≤◌, ◌<◌, arith, ap, sym}
 use Rattle.std.proofs.Common.{◌∙◌, subst, List, [], ◌∷◌, ◌++◌, get_or, length, false, Result, Err}
-use Rattle.std.specs.Prelude.{IfErr, IfOk, nat_lt, if◌then◌else◌}
+use Rattle.std.specs.Prelude.{IfErr, nat_lt, if◌then◌else◌}
 use Rattle.std.proofs.lemmas.Bool.Decides.{nat_tests}
 use Rattle.std.proofs.Math.Nat.{mul-le-mul, mul-le-mul_left, suc-mul}
 use Rattle.std.proofs.lemmas.Grind.{get_or_default_zero}

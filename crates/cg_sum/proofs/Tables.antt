@@ -13,14 +13,14 @@ use Rattle.cg_form.specs.Game.{Game}
 use Rattle.cg_form.specs.Sum.{sum}
 use Rattle.cg_nodes.specs.Can.{can}
 use Rattle.cg_sum.specs.Progress.{HoldsForms, sum_at_place}
-use Rattle.cg_sum.proofs.Walks.{at_later}
+use Rattle.cg_canon.proofs.InternerSteps.{at_later}
 
 module _ (form : ℕ → Game) where
   pub holds_none : (gs : List Game) (table : List ℕ) → table ≡ [] → HoldsForms gs form 0 table
   holds_none gs table e = record { count = ap length e; each = λ m l. absurd (omega (arith, l)) }
 
   pub holds_later : (gs hs : List Game) → Begins gs hs → (n : ℕ) (table : List ℕ) → HoldsForms gs form n table → HoldsForms hs form n table
-  holds_later gs hs b n table h = record { count = h.count; each = λ m l. at_later gs hs b _ _ (h.each m l) }
+  holds_later gs hs b n table h = record { count = h.count; each = λ m l. at_later gs hs _ _ b (h.each m l) }
 
   pub holds_more : (gs : List Game) (n i k : ℕ) (table more : List ℕ) → HoldsForms gs form n table → IsAt gs i (form n)
       → more ≡ table ++ (i ∷ []) → k ≡ n + 1 → HoldsForms gs form k more

@@ -1,6 +1,6 @@
 -- The greatest of the sides of some games, one after the other.
 use Rattle.std.proofs.Common.{◌≡◌, refl, ℕ, zero, suc, ◌+◌, ◌<◌, ◌≤◌, arith, ap, sym, ◌∙◌, Bool, true, false}
-use Rattle.std.proofs.Common.{All, if◌then◌else◌, List, [], ◌∷◌, ◌++◌, map, take, get_or, length, ℤ, neg_ℤ}
+use Rattle.std.proofs.Common.{All, List, [], ◌∷◌, ◌++◌, map, take, get_or, length, ℤ, neg_ℤ}
 use Rattle.std.proofs.lemmas.Int.{ints}
 use Rattle.std.proofs.lemmas.List.{get_or_default}
 use Rattle.std.specs.Int.{int_max}
@@ -20,7 +20,7 @@ use Rattle.cg_thermo.specs.declared.wall_pair.WallPair.{WallPair}
 use Rattle.cg_thermo.specs.Progress.{AreWallPairs}
 use Rattle.cg_thermo.specs.Smooths.{Smooth}
 use Rattle.cg_thermo.specs.HighestWalls.{IsHighestWall, side_value}
-use Rattle.cg_thermo.proofs.WallPairSteps.{wall_pair_there}
+use Rattle.cg_arena.proofs.Interning.{some_at}
 use Rattle.cg_thermo.proofs.Drawing.{HighestWalls}
 
 -- ---- one game more
@@ -96,7 +96,7 @@ smooth_options : (fs : List Game) (cs : List WallPair) (ps : List ℕ) → AreWa
 smooth_options fs cs ps h within a m =
     let (p, k, e) = member_of fs ps a m in
     let l : p < length cs = (rw (← k.2) (within k.0 p k.1)) in
-    let (c, is) = wall_pair_there cs p l in
+    let (c, is) = some_at cs p l in
     rw e (h.each p c l is).smooth
 
 pub highest_of : (fs : List Game) (cs : List WallPair) (g : Game) (ls rs : List ℕ) (p q : Rise) → Canonical g → IsNode g

@@ -1,5 +1,5 @@
 -- The line of corners, one corner after the other.
-use Rattle.std.proofs.Common.{◌≡◌, refl, ℕ, zero, suc, ◌⊎◌, inl, inr, Bool, [], ◌++◌, append_assoc, pos, ◌+◌, ◌<◌, ◌≤◌, ◌^◌, arith, ap, sym, ◌∙◌}
+use Rattle.std.proofs.Common.{◌≡◌, refl, ℕ, zero, suc, ◌⊎◌, inl, inr, [], ◌++◌, append_assoc, pos, ◌+◌, ◌<◌, ◌≤◌, ◌^◌, arith, ap, sym, ◌∙◌}
 use Rattle.std.proofs.Common.{subst, true, false, cond, Option, Some, None, List, ◌∷◌, drop, get_or, length, unsigned_abs, ℤ, ◌-ℤ◌, ◌≤ℤ◌, ◌<ℤ◌}
 use Rattle.std.proofs.lemmas.Int.{fits_signed_from_abs, ints, to_z-of_z}
 use Rattle.std.proofs.Math.Seq.{drop-cons}

@@ -13,7 +13,7 @@ use Rattle.cg_form.specs.Walls.{TemperatureIs, Walls, scaffold_of, walls}
 use Rattle.cg_form.proofs.Decide.{number-decide}
 use Rattle.cg_form.proofs.Finer.{Finer, twice, twice_pos}
 use Rattle.cg_form.proofs.Preorder.{equal_refl}
-use Rattle.cg_form.proofs.Temperature.{Later, later}
+use Rattle.cg_form.proofs.Temperature.{later}
 use Rattle.cg_form.proofs.Walls.{walls-number, walls-unique}
 use Rattle.cg_thermo.proofs.Deciders.{cool-unique, mast-unique}
 use mir.Syntax.{w128}

@@ -1,27 +1,26 @@
 -- The wall_pairs of the positions that were walked, and the error that says that a temperature needs more places.
 use Rattle.std.proofs.Common.{◌≡◌, ◌⊎◌, refl, ℕ, zero, suc, ◌+◌, ◌<◌, ◌≤◌, arith, inl, inr, ap, sym}
-use Rattle.std.proofs.Common.{◌∙◌, subst, false, List, [], ◌∷◌, ◌++◌, get_or, length, Result, Err}
+use Rattle.std.proofs.Common.{◌∙◌, subst, List, [], ◌∷◌, ◌++◌, get_or, length, Result, Err}
 use Rattle.std.proofs.Math.ListN.{get_or-append}
 use Rattle.std.proofs.Math.Seq.{get_or-append_seam}
 use Rattle.std.proofs.lemmas.Bool.{cases_Bool}
-use Rattle.std.proofs.lemmas.List.{get_or-map, length-append, length-map}
-use Rattle.std.proofs.lemmas.List.Elements.{All-get_or}
-use Rattle.cg_arena.specs.Arena.{IsIndex, game_of, games_of}
-use Rattle.cg_canon.specs.Arena.{IsAt}
-use Rattle.cg_canon.specs.Walk.{IsPlace, IsWalk, indexes_of, lefts_of, rights_of}
+use Rattle.std.proofs.lemmas.List.{length-append}
+use Rattle.cg_arena.specs.Arena.{game_of, games_of}
+use Rattle.cg_arena.proofs.Interning.{some_at}
+use Rattle.cg_canon.proofs.WalkPositions.{place}
+use Rattle.cg_canon.specs.Walk.{IsWalk, lefts_of, rights_of}
 use Rattle.cg_canon.specs.declared.walk.Position.{Position}
 use Rattle.cg_canon.specs.declared.walk.Walk.{Walk}
 use Rattle.cg_dyadic.specs.Wide.{places}
 use Rattle.cg_form.proofs.AllPositions.{positions_of-last}
 use Rattle.cg_form.proofs.Among.{carry, lefts-node, rights-node}
-use Rattle.cg_form.specs.Canonical.{Canonical}
 use Rattle.cg_form.specs.Extended.{extended, positions_before}
 use Rattle.cg_form.specs.Game.{Among, Game, IsNode, lefts, node, rights}
 use Rattle.cg_form.specs.Positions.{positions_of}
 use Rattle.cg_thermo.specs.declared.wall_pair.WallPair.{WallPair}
 use Rattle.cg_thermo.specs.declared.fault.ThermoFault.{ThermoFault}
 use Rattle.cg_thermo.specs.declared.fault.ThermoFault.TheVariants.{Range}
-use Rattle.cg_thermo.specs.Progress.{AreWallPairs, HasWallPair, Rough, SomeRough, walked}
+use Rattle.cg_thermo.specs.Progress.{AreWallPairs, HasWallPair, Rough, SomeRough}
 use Rattle.cg_thermo.specs.Thermal.{NeedsMore}
 use Rattle.cg_thermo.proofs.Drawing.{le_or_lt_n}
 
@@ -54,60 +53,31 @@ some_positions g fs e =
     let k = ap length (e ∙ positions_of-last g) in
     omega (arith, n, k)
 
--- ---- a position that was walked
+-- ---- the options of a position that was walked, where its game is no number
 
-pub node_of : (g : Game) (ls rs : List Game) → g ≡ node ls rs → IsNode g
-node_of g ls rs e = rw e tt
+module _ (gs : List Game) (w : Walk) (fs : List Game) (is : IsWalk gs w fs) (i : ℕ) (p : Position) (within : i < length fs)
+    (read : p ≡ get_or w.positions.items i p) (isnode : IsNode (game_of fs i)) where
+  abbrev ls : List Game
+  ls = games_of fs (lefts_of w.options.items p)
 
-module _ (gs : List Game) (w : Walk) (is : IsWalk gs w (walked gs w)) where
-  abbrev fs : List Game
-  fs = walked gs w
+  abbrev rs : List Game
+  rs = games_of fs (rights_of w.options.items p)
 
-  pub walked_count : length (walked gs w) ≡ length w.positions.items
-  walked_count = length-map (indexes_of w.positions.items) (game_of gs) ∙ length-map w.positions.items (λ p. p.index)
-
-  module _ (i : ℕ) (p : Position) (within : i < length (walked gs w)) (read : p ≡ get_or w.positions.items i p) where
-    inside : i < length w.positions.items
-    inside = let n = walked_count in omega (arith, n, within)
-
-    pub place : IsPlace w.options.items fs i p
-    place = is.places i p inside read
-
-    pub canonical_here : Canonical (game_of fs i)
-    canonical_here = All-get_or (λ z. Canonical z) fs i (node [] []) within is.canonical
-
-    pub at : IsAt gs p.index (game_of fs i)
-    at =
-        let ps = indexes_of w.positions.items in
-        let l : i < length ps = (let n = length-map w.positions.items (λ p. p.index) in let h = inside in omega arith) in
-        let own : get_or ps i 0 ≡ p.index = get_or-map (λ p. p.index) w.positions.items i p 0 inside ∙ ap (λ z. z.index) (sym read) in
-        rw (← own) (record {
-          within = All-get_or (λ z. IsIndex gs z) ps i 0 l is.at.0;
-          is = sym (get_or-map (game_of gs) ps i 0 (node [] []) l);
-        })
-
-    -- where the game is no number its options stand before it
-    module _ (isnode : IsNode (game_of fs i)) where
-      none : p.is_number ≡ false
-      none = elim (cases_Bool p.is_number) [
-        | inl e ↦ (let n = place.as_number e in let P : Game → Type 0 = λ z. IsNode z in absurd (subst P n.is isnode))
-        | inr e ↦ e
+  both : game_of fs i ≡ node ls rs
+  both =
+      let here = place gs w fs is i p within read in
+      elim (cases_Bool p.is_number) [
+        | inl e ↦ (let n = here.as_number e in let P : Game → Type 0 = λ z. IsNode z in absurd (subst P n.is isnode))
+        | inr e ↦ here.as_node e
       ]
 
-      pub lefts_here : lefts (game_of fs i) ≡ games_of fs (lefts_of w.options.items p)
-      lefts_here = ap lefts (place.as_node none)
-          ∙ lefts-node (games_of fs (lefts_of w.options.items p)) (games_of fs (rights_of w.options.items p))
+  pub lefts_here : lefts (game_of fs i) ≡ ls
+  lefts_here = ap lefts both ∙ lefts-node ls rs
 
-      pub rights_here : rights (game_of fs i) ≡ games_of fs (rights_of w.options.items p)
-      rights_here = ap rights (place.as_node none)
-          ∙ rights-node (games_of fs (lefts_of w.options.items p)) (games_of fs (rights_of w.options.items p))
+  pub rights_here : rights (game_of fs i) ≡ rs
+  rights_here = ap rights both ∙ rights-node ls rs
 
 -- ---- wall_pairs
-
-pub wall_pair_there : (cs : List WallPair) (i : ℕ) → i < length cs → (c : WallPair) × (c ≡ get_or cs i c)
-wall_pair_there [] i h = absurd (omega arith)
-wall_pair_there (c ∷ cs) zero h = (c, refl)
-wall_pair_there (c ∷ cs) (suc i) h = wall_pair_there cs i (omega arith)
 
 pub wall_pairs_none : (fs : List Game) (cs : List WallPair) → cs ≡ [] → AreWallPairs fs cs
 wall_pairs_none fs cs e = record { each = λ i c l is. absurd (let n = ap length e in omega (arith, n, l)) }
@@ -142,7 +112,7 @@ module _ (g : Game) (fs : List Game) (cs : List WallPair) (is : fs ≡ positions
   pub each_walls_paired : (p : Game) → Among p (positions_of g) → (c : WallPair) × HasWallPair p c
   each_walls_paired p m =
       let (i, l, e) = place_of fs p (carry p (positions_of g) fs (sym is) m) in
-      let (c, read) = wall_pair_there cs i (omega (arith, l, count)) in
+      let (c, read) = some_at cs i (omega (arith, l, count)) in
       let P : Game → Type 0 = λ z. HasWallPair z c in
       (c, subst P e (wall_pairs.each i c (omega (arith, l, count)) read))
 

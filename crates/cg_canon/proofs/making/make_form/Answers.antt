@@ -2,11 +2,15 @@ use Rattle.cg_canon.specs.Paid.{written}
 use Rattle.cg_canon.proofs.Paying.{made_paid}
 use Rattle.cg_canon.proofs.making.make_form.Goals as goal
 
-pub returns-clause-paid : goal.returns-clause-paid
-returns-clause-paid g c =
+pub returns-clause-entered : goal.returns-clause-entered
+returns-clause-entered g c =
     let W = g.S.CellStore.state in
     let form = written c.args.interner.now.arena c.args.new.now in
     let spends = c.claimed.ensures.spends in
-    made_paid (W c.args.store.now) (W c.claimed.new.store) c.args.meter.now c.charge_form.new.self form c.args.extra c.claimed.result
-    spends.0 c.args.new.now.summary.cost spends.1 spends.2 c.in_ok-charge_form.ensures.ok c.in_ok-charge_form.ensures.fits
-    c.claimed.ensures.game (c.in_ok-charge_form.ensures.charged form c.requires.form.summary)
+    record {
+      paid = made_paid (W c.args.store.now) (W c.claimed.new.store) c.args.meter.now c.charge_form.new.self form c.args.extra c.claimed.result.handle
+          spends.0 c.args.new.now.summary.cost spends.1 spends.2 c.in_ok-charge_form.ensures.ok c.in_ok-charge_form.ensures.fits
+          c.claimed.ensures.game (c.in_ok-charge_form.ensures.charged form c.requires.form.summary);
+      at = c.claimed.ensures.index;
+      begins = c.claimed.ensures.begins;
+    }

@@ -1,12 +1,19 @@
-use Rattle.std.proofs.Common.{refl}
+use Rattle.std.proofs.Common.{arith, refl}
+use Rattle.cg_nodes.proofs.Later.{nothing_spent}
 use Rattle.cg_arena.specs.Arena.{game_of}
-use Rattle.cg_canon.proofs.MakingAt.{paid_known}
+use Rattle.cg_canon.proofs.InternerSteps.{begins_none, named_stands}
+use Rattle.cg_canon.proofs.Paying.{made_paid}
 use Rattle.cg_canon.proofs.making_at.known_at.Goals as goal
 
-pub returns-clause-paid : goal.returns-clause-paid
-returns-clause-paid g c =
-    let gs = c.args.interner.now.arena in
-    let form = game_of gs c.args.index in
-    paid_known (g.S.CellStore.state c.args.store.now) c.args.meter.now c.charge_form.new.self gs c.args.index form c.args.extra
-    c.summary.result.now.cost c.in_ok-charge_form.ensures.ok c.in_ok-charge_form.ensures.fits
-    (record { within = c.requires.index; is = refl }) (c.in_ok-charge_form.ensures.charged form c.summary.ensures.summary)
+pub returns-clause-entered : goal.returns-clause-entered
+returns-clause-entered g c =
+    let s = g.S.CellStore.state c.args.store.now in
+    let form = game_of c.args.interner.now.arena c.args.index in
+    record {
+      paid = made_paid s s c.args.meter.now c.charge_form.new.self form c.args.extra c.handle.result 0 c.summary.result.now.cost (omega arith)
+          (nothing_spent s) c.in_ok-charge_form.ensures.ok c.in_ok-charge_form.ensures.fits
+          (named_stands s c.args.interner.now c.handle.result c.args.index c.requires.holds c.handle.ensures)
+          (c.in_ok-charge_form.ensures.charged form c.summary.ensures.summary);
+      at = record { within = c.requires.index; is = refl };
+      begins = begins_none c.args.interner.now.arena;
+    }

@@ -9,8 +9,9 @@ use Rattle.cg_nodes.proofs.Walked.{before_length}
 use Rattle.cg_arena.specs.Arena.{game_of}
 use Rattle.cg_arena.proofs.Slices.{item_size, index_of_item}
 use Rattle.cg_canon.specs.Walking.{found_in}
-use Rattle.cg_canon.proofs.WalkSteps.{before_there, found_length, left_longer, marked_place, next_found, next_longer}
-use Rattle.cg_canon.proofs.WalkSteps.{next_more, next_walk, not_yet, place_there, right_longer, sides_walked, walked_next}
+use Rattle.cg_canon.proofs.WalkPlaces.{found_length, marked_place, place_there}
+use Rattle.cg_canon.proofs.WalkSteps.{before_there, left_longer, next_found, next_longer}
+use Rattle.cg_canon.proofs.WalkSteps.{next_more, next_walk, not_yet, right_longer, sides_walked, walked_next}
 use Rattle.cg_canon.proofs.walking.+walk.Goals as goal
 
 -- ---- a game

@@ -6,7 +6,7 @@ use Rattle.cg_canon.proofs.Keeping.{spends_keeps}
 use Rattle.cg_canon.proofs.MadeSteps.{made_memory, made_with}
 use Rattle.cg_sum.specs.Progress.{sum_at_place}
 use Rattle.cg_sum.proofs.SumEnds.{gives_refused, last_at, last_sum, refused_items, same_refusal, some_sum, stands_as, sum_made}
-use Rattle.cg_sum.proofs.Walks.{walk_as}
+use Rattle.cg_canon.proofs.WalkPositions.{walk_as}
 use Rattle.cg_sum.proofs.addition.other_sum.Goals as goal
 
 pub returns-in_err-terms : goal.returns-in_err-terms

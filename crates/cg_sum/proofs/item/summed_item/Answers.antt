@@ -7,7 +7,7 @@ use Rattle.cg_sum.proofs.Options.{lefts_apart_by, lefts_are, rights_apart_by, ri
 use Rattle.cg_sum.proofs.Placed.{one_first, one_second}
 use Rattle.cg_arena.specs.Arena.{game_of}
 use Rattle.cg_sum.proofs.Sums.{IsNumber}
-use Rattle.cg_sum.proofs.Walks.{count}
+use Rattle.cg_canon.proofs.WalkPositions.{count}
 use Rattle.cg_sum.proofs.item.summed_item.Goals as goal
 use Rattle.cg_sum.proofs.item.summed_item.Goals.{then-f-via-then-f, then-f-via-else-f+then-k}
 

@@ -8,7 +8,7 @@ use Rattle.cg_sum.proofs.Loops.{holds_as, list_done, list_more, list_stopped}
 use Rattle.cg_sum.proofs.Makings.{forms_memory, forms_none}
 use Rattle.cg_sum.proofs.ItemSteps.{form_least}
 use Rattle.cg_sum.proofs.Tables.{holds_none}
-use Rattle.cg_sum.proofs.Walks.{count, inside_walk, walk_later}
+use Rattle.cg_canon.proofs.WalkPositions.{count, inside_walk, walk_later}
 use Rattle.cg_sum.proofs.negation.add_negatives.Goals as goal
 
 pub loop-place-init : goal.loop-place-init

@@ -7,7 +7,7 @@ use Rattle.cg_canon.proofs.MadeSteps.{made_memory, made_with}
 use Rattle.cg_sum.specs.Progress.{negative_at_place}
 use Rattle.cg_sum.proofs.SumEnds.{gives_refused, last_at, last_negative, limit_refused, negative_made}
 use Rattle.cg_sum.proofs.SumEnds.{refused_items, same_refusal, same_spent, some_negative, stands_as}
-use Rattle.cg_sum.proofs.Walks.{walk_as}
+use Rattle.cg_canon.proofs.WalkPositions.{walk_as}
 use Rattle.cg_sum.proofs.negation.negative.Goals as goal
 
 pub returns-in_err-walk : goal.returns-in_err-walk

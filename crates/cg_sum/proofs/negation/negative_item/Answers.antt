@@ -7,7 +7,7 @@ use Rattle.cg_sum.specs.Progress.{indexes}
 use Rattle.cg_sum.proofs.ItemSteps.{given_form}
 use Rattle.cg_sum.proofs.Options.{negated_form, negated_left, negated_left_apart, negated_right, negated_right_apart}
 use Rattle.cg_sum.proofs.Sums.{can-negative_number}
-use Rattle.cg_sum.proofs.Walks.{at, node_of_place, number_at_index}
+use Rattle.cg_canon.proofs.WalkPositions.{at, node_of_place, number_at_index}
 use Rattle.cg_sum.proofs.negation.negative_item.Goals as goal
 
 pub number_at-x-requires-clause-index : goal.number_at-x-requires-clause-index

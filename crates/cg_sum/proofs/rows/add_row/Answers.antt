@@ -8,7 +8,7 @@ use Rattle.cg_sum.specs.Progress.{sum_at_place}
 use Rattle.cg_sum.proofs.Loops.{holds_as, list_done, list_more, list_stopped}
 use Rattle.cg_sum.proofs.Makings.{forms_as, forms_memory, forms_none}
 use Rattle.cg_sum.proofs.Tables.{sum_placed}
-use Rattle.cg_sum.proofs.Walks.{count, inside_walk, walk_later}
+use Rattle.cg_canon.proofs.WalkPositions.{count, inside_walk, walk_later}
 use Rattle.cg_sum.proofs.rows.add_row.Goals as goal
 
 pub loop-column-init : goal.loop-column-init

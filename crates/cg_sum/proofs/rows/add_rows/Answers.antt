@@ -6,7 +6,7 @@ use Rattle.cg_sum.specs.Progress.{sum_at_place}
 use Rattle.cg_sum.proofs.Loops.{next_row, rows_done, rows_more, rows_stopped}
 use Rattle.cg_sum.proofs.Makings.{forms_as, forms_none}
 use Rattle.cg_sum.proofs.Tables.{holds_none}
-use Rattle.cg_sum.proofs.Walks.{count, inside_walk, walk_later}
+use Rattle.cg_canon.proofs.WalkPositions.{count, inside_walk, walk_later}
 use Rattle.cg_sum.proofs.rows.add_rows.Goals as goal
 
 pub loop-row-init : goal.loop-row-init

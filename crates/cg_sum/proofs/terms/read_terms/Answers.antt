@@ -7,7 +7,7 @@ use Rattle.cg_canon.specs.declared.fault.ValueFault.TheVariants.{Positions}
 use Rattle.cg_nodes.proofs.Later.{spends_then}
 use Rattle.cg_sum.proofs.SumEnds.{err_refused, firsts_above, limit_refused, pairs_above, pairs_within}
 use Rattle.cg_sum.proofs.SumEnds.{positions_before, refusal_before, same_spent, seconds_above}
-use Rattle.cg_sum.proofs.Walks.{count, walk_as, walk_later}
+use Rattle.cg_canon.proofs.WalkPositions.{count, walk_as, walk_later}
 use Rattle.cg_sum.proofs.terms.read_terms.Goals as goal
 
 pub returns-in_err-firsts-clause-refused : goal.returns-in_err-firsts-clause-refused

@@ -7,7 +7,8 @@ use Rattle.cg_dyadic.specs.Wide.{places}
 use Rattle.cg_form.specs.Game.{Game, IsNode}
 use Rattle.cg_thermo.specs.Progress.{HasWallPair, walked}
 use Rattle.cg_thermo.specs.HighestWalls.{IsHighestWall}
-use Rattle.cg_thermo.proofs.WallPairSteps.{at, canonical_here, lefts_here, node_of, place, rights_here}
+use Rattle.cg_canon.proofs.WalkPositions.{at, canonical, is_node, place}
+use Rattle.cg_thermo.proofs.WallPairSteps.{lefts_here, rights_here}
 use Rattle.cg_thermo.proofs.Drawing.{HighestWalls, gap-start}
 use Rattle.cg_thermo.proofs.Roughs.{joined-walls_paired, jump-rough}
 use Rattle.cg_thermo.proofs.HighestSteps.{highest_of}
@@ -16,11 +17,11 @@ use Rattle.cg_thermo.proofs.pairing_walls.wall_pair_at.Goals as goal
 use Rattle.cg_thermo.proofs.pairing_walls.wall_pair_at.Goals.{In_ok-high-in-Game}
 
 pub read_at-requires : goal.read_at-requires
-read_at-requires g c = (at _ _ c.requires.walk c.args.place _ c.requires.place c.index-position.ensures).within
+read_at-requires g c = (at _ _ _ c.requires.walk c.args.place _ c.requires.place c.index-position.ensures).within
 
 pub highest_wall-requires-in-Game-clause-places : goal.highest_wall-requires-in-Game-clause-places
 highest_wall-requires-in-Game-clause-places g c =
-    let b = (place _ _ c.requires.walk c.args.place _ c.requires.place c.index-position.ensures).rights_before in
+    let b = (place _ _ _ c.requires.walk c.args.place _ c.requires.place c.index-position.ensures).rights_before in
     let P : ℕ → Type 0 = λ n. All (λ q. q < n) (rights_of c.args.walk.now.options.items c.index-position.result.now) in
     let D : List ℕ → Type 0 = λ z. All (λ q. q < length c.args.wall_pairs.now)
     (slice_range z c.index-position.result.now.rights c.index-position.result.now.end) in
@@ -36,16 +37,16 @@ the_highest g c =
     let walk = c.requires.walk in
     let read = c.index-position.ensures in
     let lt = c.requires.place in
-    let here = place _ _ walk c.args.place p lt read in
-    let n : IsNode (game_of fs c.args.place) = node_of _ _ _ (sym (at _ _ walk c.args.place p lt read).is ∙ c.in-Game.ensures.read.2) in
+    let here = place _ _ _ walk c.args.place p lt read in
+    let n : IsNode (game_of fs c.args.place) = is_node _ _ _ (sym (at _ _ _ walk c.args.place p lt read).is ∙ c.in-Game.ensures.read.2) in
     let B : ℕ → List ℕ → Type 0 = λ k xs. All (λ q. q < k) xs in
     let L : List ℕ → Type 0 = λ z. IsHighestWall true (games_of fs (slice_range z p.lefts p.rights)) c.in_ok-low-in-Game.low in
     let R : List ℕ → Type 0 = λ z. IsHighestWall false (games_of fs (slice_range z p.rights p.end)) c.in_ok-high-in-Game.high in
     let P : ℕ → Type 0 = λ k. B k (lefts_of options p) in
     let Q : ℕ → Type 0 = λ k. B k (rights_of options p) in
     highest_of fs c.args.wall_pairs.now (game_of fs c.args.place) (lefts_of options p) (rights_of options p) _ _
-    (canonical_here _ _ walk c.args.place p lt read) n (lefts_here _ _ walk c.args.place p lt read n)
-    (rights_here _ _ walk c.args.place p lt read n) c.requires.wall_pairs
+    (canonical _ _ _ walk c.args.place p lt read) n (lefts_here _ _ _ walk c.args.place p lt read n)
+    (rights_here _ _ _ walk c.args.place p lt read n) c.requires.wall_pairs
     (subst P (sym c.requires.before) here.lefts_before) (subst Q (sym c.requires.before) here.rights_before)
     c.in_ok-low-in-Game.ensures.wall c.in_ok-high-in-Game.ensures.wall
     (subst L c.deref.ensures.value (c.in_ok-low-in-Game.ensures.highest_wall fs c.requires.wall_pairs))
@@ -57,7 +58,7 @@ joined-requires-clause-start g c = gap-start _ _ _ _ (the_highest g (goal.at.joi
 pub returns-in-Number-clause-wall_pair : goal.returns-in-Number-clause-wall_pair
 returns-in-Number-clause-wall_pair g c =
     let P : Game → Type 0 = λ z. HasWallPair z c.number_wall_pair.result in
-    subst P (sym c.in-Number.ensures.read ∙ (at _ _ c.requires.walk c.args.place _ c.requires.place c.index-position.ensures).is) c.number_wall_pair.ensures
+    subst P (sym c.in-Number.ensures.read ∙ (at _ _ _ c.requires.walk c.args.place _ c.requires.place c.index-position.ensures).is) c.number_wall_pair.ensures
 
 pub returns-in_ok-high-in-Game-clause-wall_pair : goal.returns-in_ok-high-in-Game-clause-wall_pair
 returns-in_ok-high-in-Game-clause-wall_pair g c =

@@ -4,7 +4,8 @@ use Rattle.std.proofs.lemmas.List.{length-append}
 use Rattle.std.proofs.lemmas.Result.{err_from_is_err_and}
 use Rattle.cg_arena.specs.Arena.{game_of}
 use Rattle.cg_thermo.specs.Progress.{HasWallPair, walked}
-use Rattle.cg_thermo.proofs.WallPairSteps.{wall_pairs_more, wall_pairs_none, err_range, rough_at, walked_count}
+use Rattle.cg_canon.proofs.WalkPositions.{count}
+use Rattle.cg_thermo.proofs.WallPairSteps.{wall_pairs_more, wall_pairs_none, err_range, rough_at}
 use Rattle.cg_thermo.proofs.pairing_walls.wall_pairs_of.Goals as goal
 
 pub loop-place-init : goal.loop-place-init
@@ -12,7 +13,7 @@ loop-place-init g c = (ap length c.in_ok-wall_pairs.ensures.items, wall_pairs_no
 
 pub wall_pair_at-requires-clause-place : goal.wall_pair_at-requires-clause-place
 wall_pair_at-requires-clause-place g c =
-    let n = walked_count _ _ c.requires in
+    let n = count _ _ _ c.requires in
     let k = c.args.walk.now.positions.ok.0 in
     let e = c.len-place-end.ensures in
     let t = c.loop-place-test.true in
@@ -21,7 +22,7 @@ wall_pair_at-requires-clause-place g c =
 pub returns-in_err-wall_pair-clause-range : goal.returns-in_err-wall_pair-clause-range
 returns-in_err-wall_pair-clause-range g c = λ e.
     let p = err_from_is_err_and c.from_residual-in_err-wall_pair.result c.from_residual-in_err-wall_pair.ensures.1 in
-    let n = walked_count _ _ c.requires in
+    let n = count _ _ _ c.requires in
     let k = c.args.walk.now.positions.ok.0 in
     let l = c.len-place-end.ensures in
     let t = c.loop-place-test.true in
@@ -40,7 +41,7 @@ loop-place-preserved g c =
 
 pub returns-clause-count : goal.returns-clause-count
 returns-clause-count g c =
-    let n = walked_count _ _ c.requires in
+    let n = count _ _ _ c.requires in
     let k = c.args.walk.now.positions.ok.0 in
     let l = c.len-place-end.ensures in
     let t = c.loop-place-test.false in

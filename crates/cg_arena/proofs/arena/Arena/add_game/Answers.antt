@@ -4,7 +4,8 @@ use Rattle.cg_arena.specs.declared.arena.Entry.{Entry}
 use Rattle.cg_arena.specs.declared.summary.Summary.{Summary}
 use Rattle.cg_arena.specs.Arena.{IsArena, games_of, said_by}
 use Rattle.cg_arena.proofs.Results.{always_on_err}
-use Rattle.cg_arena.proofs.Interning.{Adds, adds_game, counted, one_entry, same_indexes}
+use Rattle.cg_arena.proofs.Adding.{Adds, adds_game, one_entry, same_indexes}
+use Rattle.cg_arena.proofs.Interning.{counted}
 use Rattle.cg_arena.proofs.arena.Arena.add_game.Goals as goal
 
 pub invariant_of-self-in_err-extend_from_slice-2 : goal.invariant_of-self-in_err-extend_from_slice-2

@@ -2,7 +2,8 @@ use Rattle.std.proofs.Common.{◌≡◌, ◌++◌, ◌∷◌, [], length, refl, 
 use Rattle.cg_form.specs.Game.{number}
 use Rattle.cg_arena.specs.declared.arena.Entry.{Entry}
 use Rattle.cg_arena.specs.Arena.{IsArena, said_by}
-use Rattle.cg_arena.proofs.Interning.{Adds, adds_number, counted, one_entry}
+use Rattle.cg_arena.proofs.Adding.{Adds, adds_number, one_entry}
+use Rattle.cg_arena.proofs.Interning.{counted}
 use Rattle.cg_arena.proofs.arena.Arena.add_number.Goals as goal
 
 abbrev entry_of : goal.In_ok-add → Entry

@@ -1,6 +1,7 @@
 use Rattle.std.proofs.Common.{◌∙◌, inl, inr, refl}
 use Rattle.cg_arena.specs.Arena.{game_of}
-use Rattle.cg_canon.proofs.WalkSteps.{node_place, option_before}
+use Rattle.cg_canon.proofs.WalkPlaces.{node_place}
+use Rattle.cg_canon.proofs.WalkSteps.{option_before}
 use Rattle.cg_canon.proofs.walk.Walk.position.Goals as goal
 
 pub put_options-requires-clause-found : goal.put_options-requires-clause-found

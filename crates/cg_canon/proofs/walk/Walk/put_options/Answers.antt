@@ -1,7 +1,7 @@
 use Rattle.std.proofs.Common.{refl, get_or}
 use Rattle.cg_arena.specs.Arena.{game_of}
 use Rattle.cg_arena.proofs.Slices.{item_among}
-use Rattle.cg_canon.proofs.WalkSteps.{appended_next, marked_place}
+use Rattle.cg_canon.proofs.WalkPlaces.{appended_next, marked_place}
 use Rattle.cg_canon.proofs.walk.Walk.put_options.Goals as goal
 
 pub loop-index-preserved : goal.loop-index-preserved

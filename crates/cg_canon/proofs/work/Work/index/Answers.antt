@@ -1,4 +1,4 @@
-use Rattle.cg_canon.proofs.Valuing.{searched}
+use Rattle.cg_canon.proofs.Holding.{searched}
 use Rattle.cg_canon.proofs.work.Work.index.Goals as goal
 
 pub invariant_of-self : goal.invariant_of-self
