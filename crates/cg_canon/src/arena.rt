@@ -47,14 +47,6 @@ impl<'a, B: BoardForms, S: CellStore<GameFacts<B>>> Work<'a, B, S> {
         self.cache.memo.interner.handle(index)
     }
 
-    /// The games that the work has met.
-    #[inline(always)]
-    pub fn arena(&self) -> &Arena
-        ensures { result.now ≡ self.now.arena }
-    {
-        &self.cache.memo.interner.arena
-    }
-
     /// The game at the index: a number, or the indexes of the Left and of the Right options of another game.
     #[inline(always)]
     pub fn read_at(&self, index: u32) -> Read<'_>
