@@ -1,5 +1,5 @@
 -- The games of named forms, by their lists of options.
-use Rattle.std.proofs.Common.{◌≡◌, refl, ap, sym, ◌∙◌, subst, ℕ, zero, suc, arith, List, [], ◌∷◌, ◌++◌, map, length, Bool, true, false, not}
+use Rattle.std.proofs.Common.{◌≡◌, refl, ap, sym, ◌∙◌, ℕ, zero, suc, arith, List, [], ◌∷◌, ◌++◌, map, length, Bool, true, false, not}
 use Rattle.std.proofs.lemmas.List.{length-map, map-append}
 use Rattle.cg_dyadic.specs.Number.{Number}
 use Rattle.cg_form.specs.Depth.{deepest_of, depth_of}
@@ -140,7 +140,7 @@ pub data ArrowsShape (down starred : Bool) (x : Number) (n : ℕ) (ls rs : List 
       → rs ≡ shifted x (ups_of down (not starred) m) ∷ [] → ArrowsShape down starred x n ls rs
 
 pub not_number : (g : Game) (x : Number) → IsNode g → ¬ (g ≡ number x)
-not_number g x i e = let P : Game → Type 0 = λ z. IsNode z in subst P e i
+not_number g x i e = rw e at i
 
 pub arrows_shape : (down starred : Bool) (x : Number) (n : ℕ) (ls rs : List Game)
     → mirrored_if down ls rs ≡ shifted x (ups_of down starred n) → ArrowsShape down starred x n ls rs

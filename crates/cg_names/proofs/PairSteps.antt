@@ -1,5 +1,5 @@
 -- Two numbers and the game of both, made one after another.
-use Rattle.std.proofs.Common.{◌≡◌, refl, ap, sym, ◌∙◌, subst, ℕ, ◌+◌, List, [], ◌∷◌, ◌++◌, append-nil}
+use Rattle.std.proofs.Common.{◌≡◌, refl, ap, sym, ◌∙◌, ℕ, ◌+◌, List, [], ◌∷◌, ◌++◌, append-nil}
 use Rattle.std.proofs.Common.{length, length-append, Bool, true, false, Result, Ok, Err}
 use Rattle.std.specs.Prelude.{cond}
 use Rattle.cg_dyadic.specs.Number.{Number, NumberLe}
@@ -67,9 +67,7 @@ module _ {R : Type 0} (v : State Meant R) where
       → StandsFor v second (number b) → a ≡ first_number miny x → b ≡ second_number miny x
       → z ≡ cond miny second first → StandsFor v z zero_form
   tiny_zero false x a b first second z s t e f d =
-      let P : ℕ → Type 0 = λ k. StandsFor v k zero_form in
-      let Q : Number → Type 0 = λ k. StandsFor v first (number k) in
-      subst P (sym d) (subst Q e s)
+      rw d (rw (← e) s)
   tiny_zero true x a b first second z s t e f d =
       rw d (rw (← f) t)
 

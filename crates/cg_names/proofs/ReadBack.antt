@@ -1,5 +1,5 @@
 -- Names read back: braces and whole names.
-use Rattle.std.proofs.Common.{◌≡◌, refl, ap, sym, ◌∙◌, subst, ℕ, zero, suc, ◌+◌, ◌≤◌, max, arith, inl, inr, ◌⊎◌, List, [], ◌∷◌, ◌++◌, append-nil, map}
+use Rattle.std.proofs.Common.{◌≡◌, refl, ap, sym, ◌∙◌, subst, ℕ, zero, suc, ◌≤◌, max, arith, inl, inr, ◌⊎◌, List, [], ◌∷◌, ◌++◌, append-nil, map}
 use Rattle.std.specs.Prelude.{codes}
 use Rattle.cg_dyadic.specs.Exact.{number_text}
 use Rattle.cg_form.specs.Canonical.{Canonical}
@@ -112,7 +112,7 @@ module _ (forms : PositionForms) where
   mean_here ts none b m i = absurd i
   mean_here [] (more g gs) b m i = absurd m
   mean_here (t ∷ ts) (more g gs) b m (inl e) =
-      let P : Game → Type 0 = λ z. Equal (meaning forms t) z in (meaning forms t, inl refl, subst P (sym e) (m.0 forms))
+      (meaning forms t, inl refl, rw e (m.0 forms))
   mean_here (t ∷ ts) (more g gs) b m (inr i) = let (a, j, e) = mean_here ts gs b m.1 i in (a, inr j, e)
 
   braces_mean : (ls rs : List Tree) (cs ds : Games) → AllMean ls cs → AllMean rs ds
@@ -217,8 +217,7 @@ pub name_reads : (g : Game) (text : List ℕ) → Canonical g → IsName g text 
 unfolding Counted
 name_reads g text c n r l =
     let t = name_told g text n r in
-    let P : List ℕ → Type 0 = λ z. max (0 + t.opened) (most_open 0 []) ≤ most_open 0 z in
-    let m = subst P (append-nil text) (t.counted 0 []) in
+    let m = rw (append-nil text) at (t.counted 0 []) in
     let b = t.reads 64 (omega arith) in
     record {
       tree = b.tree;

@@ -1,5 +1,5 @@
 -- Names as terms of the grammar, and what they mean: nimbers and arrows.
-use Rattle.std.proofs.Common.{◌≡◌, refl, sym, subst, ℕ, ◌^◌, ◌<◌, ◌≤◌, inl, inr, List, ◌++◌, Bool, true, false, cond, Some, None}
+use Rattle.std.proofs.Common.{◌≡◌, refl, ℕ, ◌^◌, ◌<◌, ◌≤◌, inl, inr, List, ◌++◌, Bool, true, false, cond, Some, None}
 use Rattle.cg_dyadic.specs.Exact.{number_text}
 use Rattle.cg_dyadic.specs.Number.{InRange, Number}
 use Rattle.cg_form.specs.Game.{Game}
@@ -29,20 +29,17 @@ pub star-reads : (k : ℕ) (x : Number) (n : ℕ) (g : Game) → InRange x → n
 unfolding meaning
 star-reads k x n g r l e = elim (zero_or_not x) [
   | inl z ↦
-      let P : List ℕ → Type 0 = λ t. Reading k g (t ++ star_text n) in
-      subst P (sym (base_gone x z)) (record {
+      rw (base_gone x z) (record {
         tree = nimber n;
         is = λ i. inr (inr (inr (inl (made_is (nimber n) (star_is i n l)))));
         means = λ forms. equal_back g (nimber_form n) (alone x (nimber_form n) (nimber_form n) g z e (equal_refl (nimber_form n)));
         other = refl;
       })
   | inr z ↦
-      let P : List ℕ → Type 0 = λ t. Reading k g (t ++ star_text n) in
-      let Q : Game → Type 0 = λ h. Equal (sum h (nimber_form n)) g in
-      subst P (sym (base_there x z)) (record {
+      rw (base_there x z) (record {
         tree = joined (number_tree x) (None, Some (nimber n));
         is = λ i. number_term (grammar.special formats.One k) i x (None, Some (nimber n)) (star_text n) r (nim_tail n l);
-        means = λ forms. subst Q (sym (tree-number forms x)) (equal_back g (sum (tree.number x) (nimber_form n)) e);
+        means = λ forms. rw (tree-number forms x) (equal_back g (sum (tree.number x) (nimber_form n)) e);
         other = other_append (number_text x) (star_text n) (number_other x r);
       })
 ]
@@ -60,8 +57,7 @@ chain down starred n = cond starred (sum (ups_form down n) (nimber_form 1)) (ups
 chain_means : (down starred : Bool) (n : ℕ) → Equal (chain down starred n) (ups_of down starred n)
 chain_means down false n = equal_refl (ups_of down false n)
 chain_means down true n =
-    let P : Game → Type 0 = λ h. Equal (sum (ups_of down false n) h) (ups_of down true n) in
-    subst P (sym nimber_one) (ups-plus_star down n)
+    rw nimber_one (ups-plus_star down n)
 
 alone_tree : Bool → Bool → ℕ → Tree
 alone_tree down starred n = joined (ups down n) (None, starred_tree starred)
@@ -84,34 +80,29 @@ behind_means : (forms : PositionForms) (x : Number) (down starred : Bool) (n : �
     (sum (tree.number x) (chain down starred n))
 unfolding meaning
 behind_means forms x down false n =
-    let P : Game → Type 0 = λ h. Equal (sum h (ups_form down n)) (sum (tree.number x) (ups_form down n)) in
-    subst P (sym (tree-number forms x)) (equal_refl (sum (tree.number x) (ups_form down n)))
+    rw (tree-number forms x) (equal_refl (sum (tree.number x) (ups_form down n)))
 behind_means forms x down true n =
-    let P : Game → Type 0 = λ h. Equal (sum (sum h (ups_form down n)) (nimber_form 1))
-    (sum (tree.number x) (sum (ups_form down n) (nimber_form 1))) in
-    subst P (sym (tree-number forms x)) (equal_assoc (tree.number x) (ups_form down n) (nimber_form 1))
+    rw (tree-number forms x) (equal_assoc (tree.number x) (ups_form down n) (nimber_form 1))
 
 pub arrows-read : (k : ℕ) (down starred : Bool) (x : Number) (n : ℕ) (g : Game) → InRange x → 1 ≤ n → n < 10 ^ 30
     → Equal g (sum (tree.number x) (ups_of down starred n))
     → Reading k g (base_text x ++ (arrows_text (arrow_of down) n ++ starred_text starred))
 arrows-read k down starred x n g r s l e =
     let text : List ℕ = arrows_text (arrow_of down) n ++ starred_text starred in
-    let P : List ℕ → Type 0 = λ t. Reading k g (t ++ text) in
     let U : Game = ups_of down starred n in
     let C : Game = chain down starred n in
     elim (zero_or_not x) [
       | inl z ↦
-          let Q : Game → Type 0 = λ h. Equal h g in
-          subst P (sym (base_gone x z)) (record {
+          rw (base_gone x z) (record {
             tree = alone_tree down starred n;
             is = λ i. alone_is k i down starred n s l;
-            means = λ forms. subst Q (sym (alone_means forms down starred n)) (equal_back g C
+            means = λ forms. rw (alone_means forms down starred n) (equal_back g C
                 (alone x U C g z e (equal_back C U (chain_means down starred n))));
             other = other_append (arrows_text (arrow_of down) n) (starred_text starred) (ups_other down n);
           })
       | inr z ↦
           let t : Tree = joined (number_tree x) (Some (ups down n), starred_tree starred) in
-          subst P (sym (base_there x z)) (record {
+          rw (base_there x z) (record {
             tree = t;
             is = λ i. number_term (grammar.special formats.One k) i x (Some (ups down n), starred_tree starred) text r
                 (arrows_tail down starred n s l);

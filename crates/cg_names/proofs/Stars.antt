@@ -1,5 +1,5 @@
 -- Lists x, x + *, x + *2 and so on, and the games over them.
-use Rattle.std.proofs.Common.{◌≡◌, ap, sym, ◌∙◌, subst, ℕ, zero, suc, ◌≤◌, arith, List, [], ◌∷◌}
+use Rattle.std.proofs.Common.{◌≡◌, ap, sym, ◌∙◌, ℕ, zero, suc, ◌≤◌, arith, List, [], ◌∷◌}
 use Rattle.std.proofs.Common.{◌++◌, length, Option, Some, None, false}
 use Rattle.std.proofs.lemmas.List.{nil_from_length, same_from_push}
 use Rattle.cg_dyadic.specs.Number.{Number}
@@ -33,13 +33,10 @@ star-found ls rs x (suc n) l e f = ap (λ z. node z rs) e ∙ ap (λ z. node (st
 -- ---- what was found
 
 pub stars_none : (gs : List Game) (o : Option Number) → o ≡ None → AreStars gs o → AreStars gs None
-stars_none gs o e i = let P : Option Number → Type 0 = λ z. AreStars gs z in subst P e i
+stars_none gs o e i = rw e at i
 
 pub stars_some : (gs : List Game) (o : Option Number) (x : Number) → o ≡ Some x → AreStars gs o → AreStars gs (Some x)
-stars_some gs o x e i = let P : Option Number → Type 0 = λ z. AreStars gs z in subst P e i
-
-pub stars_at : (gs hs : List Game) (o : Option Number) → gs ≡ hs → AreStars gs o → AreStars hs o
-stars_at gs hs o e i = rw (← e) i
+stars_some gs o x e i = rw e at i
 
 -- x + *n over the list of its options
 pub star-is : (ls rs : List Game) (x : Number) (n : ℕ) → ls ≡ rs → length ls ≡ n → AreStars ls (Some x)

@@ -1,6 +1,6 @@
 -- Forms that are made one after another.
-use Rattle.std.proofs.Common.{◌≡◌, refl, ap, sym, ◌∙◌, subst, ℕ, ◌<◌, ◌≤◌, arith, List, [], ◌∷◌, ◌++◌, map, Result, Ok, Err, Bool, true, false}
-use Rattle.std.specs.Prelude.{IfOk, length, nat_lt, if◌then◌else◌}
+use Rattle.std.proofs.Common.{◌≡◌, refl, ap, sym, ◌∙◌, ℕ, ◌<◌, ◌≤◌, arith, List, [], ◌∷◌, ◌++◌, map, Result, Ok, Err, Bool, true, false}
+use Rattle.std.specs.Prelude.{length, nat_lt, if◌then◌else◌}
 use Rattle.std.proofs.lemmas.Bool.Decides.{nat_tests}
 use Rattle.std.proofs.lemmas.List.{map-append}
 use Rattle.cg_dyadic.proofs.Truth.{less-nat_lt}
@@ -48,7 +48,7 @@ module _ {R : Type 0} (s t : State Meant (WorkRest R)) where
   pub given_game : (items : List Item) (f : Game) (r : Result ℕ ValueFault) (h : ℕ) → r ≡ Ok h → Gives s t items f r
       → StandsFor t h f
   given_game items f r h e m =
-      let P : Result ℕ ValueFault → Type 0 = λ z. IfOk z (λ k. StandsFor t k f) in subst P e m.game
+      rw e at m.game
 
   pub given_refused : (items : List Item) (f : Game) (q : Result ℕ ValueFault) (fault : ValueFault) → q ≡ Err fault
       → ItemsMade s t items q → s.spare ≤ t.spare → Gives s t items f q

@@ -1,8 +1,5 @@
-use Rattle.std.proofs.Common.{arith, ap, sym, subst, ◌∙◌, false}
-use Rattle.cg_form.specs.Game.{Game}
-use Rattle.cg_canon.specs.Made.{Gives}
+use Rattle.std.proofs.Common.{arith, ap, sym, ◌∙◌, false}
 use Rattle.cg_canon.specs.Works.{work_state}
-use Rattle.cg_names.specs.Lists.{form_items}
 use Rattle.cg_names.specs.Named.{ups_chain, ups_form}
 use Rattle.cg_names.proofs.Steps.{given_from, given_positions}
 use Rattle.cg_names.proofs.UpPositions.{length-ups_chain, ups_form-positions}
@@ -12,9 +9,7 @@ use Rattle.cg_names.proofs.arrows.ups.Goals as goal
 pub returns-then-count-eq0 : goal.returns-then-count-eq0
 returns-then-count-eq0 g c =
     let W = work_state g.S.CellStore.state in
-    let P : Game → Type 0 = λ z. Gives (W c.args.work.now) (W c.nimber.new.work) (form_items c.args.work.now.limit z) z
-    c.nimber.result in
-    subst P (none_up c.args.down c.args.count c.if-count-eq0.true) c.nimber.ensures
+    rw (← (none_up c.args.down c.args.count c.if-count-eq0.true)) c.nimber.ensures
 
 pub returns-in-None : goal.returns-in-None
 returns-in-None g c =

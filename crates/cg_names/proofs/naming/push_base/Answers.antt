@@ -1,5 +1,4 @@
-use Rattle.std.proofs.Common.{◌≡◌, ap, sym, ◌∙◌, subst, append-nil, ◌++◌, List, ℕ, string_bytes}
-use Rattle.std.specs.Prelude.{OnOk}
+use Rattle.std.proofs.Common.{ap, sym, ◌∙◌, append-nil, ◌++◌, string_bytes}
 use Rattle.cg_names.proofs.Guessing.{base-none, base-some}
 use Rattle.cg_names.proofs.naming.push_base.Goals as goal
 
@@ -9,7 +8,5 @@ returns-then-is_same-clause-text c = sym (append-nil _) ∙ ap (λ z. string_byt
 
 pub returns-clause-text : goal.returns-clause-text
 returns-clause-text c =
-    let P : List ℕ → Type 0 = λ z. OnOk c.push_number.result
-    (string_bytes c.push_number.new.text ≡ string_bytes c.args.text.now ++ z) in
-    subst P (sym (base-some c.args.number (λ e. c.is_same.ensures.other c.if-is_same.false (e ∙ sym c.zero.ensures))))
+    rw (base-some c.args.number (λ e. c.is_same.ensures.other c.if-is_same.false (e ∙ sym c.zero.ensures)))
     c.push_number.ensures.text

@@ -1,11 +1,5 @@
-use Rattle.std.proofs.Common.{sym, subst, ap, arith, map, Ok}
-use Rattle.cg_dyadic.specs.Number.{Number}
-use Rattle.cg_form.specs.Game.{number}
-use Rattle.cg_nodes.specs.Games.{StandsFor}
-use Rattle.cg_canon.specs.Items.{Item}
-use Rattle.cg_canon.specs.Made.{Gives}
+use Rattle.std.proofs.Common.{sym, ap, arith, map, Ok}
 use Rattle.cg_canon.specs.Works.{work_state}
-use Rattle.std.specs.Prelude.{List}
 use Rattle.cg_canon.proofs.MadeSteps.{made_as, made_none}
 use Rattle.cg_names.specs.Lists.{plain_item}
 use Rattle.cg_names.proofs.SwitchPositions.{other_none, other_one}
@@ -15,9 +9,8 @@ pub returns-then-is_same : goal.returns-then-is_same
 returns-then-is_same g c =
     let W = work_state g.S.CellStore.state c.args.work.now in
     let e = c.is_same.ensures.same c.if-is_same.true in
-    let P : Number → Type 0 = λ z. StandsFor W c.args.first (number z) in
     record {
-      game = subst P e c.requires;
+      game = rw (← e) c.requires;
       made = made_as W W _ _ (Ok c.args.first) (sym (ap (map plain_item) (other_none c.args.x c.args.y e)))
           (made_none W c.args.first);
       more = omega arith;
@@ -26,7 +19,5 @@ returns-then-is_same g c =
 pub returns-else-is_same : goal.returns-else-is_same
 returns-else-is_same g c =
     let W = work_state g.S.CellStore.state in
-    let P : List Item → Type 0 = λ z. Gives (W c.args.work.now) (W c.make_number.new.work) z (number c.args.y)
-    c.make_number.result in
-    subst P (sym (ap (map plain_item) (other_one c.args.x c.args.y (c.is_same.ensures.other c.if-is_same.false))))
+    rw (ap (map plain_item) (other_one c.args.x c.args.y (c.is_same.ensures.other c.if-is_same.false)))
     c.make_number.ensures

@@ -1,8 +1,6 @@
-use Rattle.std.proofs.Common.{refl, sym, subst, ap, ◌∙◌, Err, arith}
+use Rattle.std.proofs.Common.{refl, ap, ◌∙◌, Err, arith}
 use Rattle.std.proofs.lemmas.Result.{err_from_is_err_and}
 use Rattle.cg_canon.specs.Works.{work_state}
-use Rattle.cg_form.specs.Canonical.{Canonical}
-use Rattle.cg_form.specs.Game.{Game}
 use Rattle.cg_names.specs.Named.{pair_positions}
 use Rattle.cg_names.proofs.PairSteps.{tiny_made, tiny_pair, tiny_zero}
 use Rattle.cg_names.proofs.Steps.{forms_after, forms_stopped, given_refused}
@@ -23,10 +21,9 @@ pub make-requires-clause-canonical : goal.make-requires-clause-canonical
 make-requires-clause-canonical g c =
     let z = tiny_zero (work_state g.S.CellStore.state c.make_pair.new.work) c.args.miny c.args.x c.args.first c.args.second _ _ _ c.in_ok-pair.ensures.first
     c.in_ok-pair.ensures.second c.requires.first c.requires.second c.zero_of-zero.ensures in
-    let P : Game → Type 0 = λ k. Canonical k in
-    subst P (sym (tiny_made (work_state g.S.CellStore.state c.make_pair.new.work) c.args.miny c.args.x c.args.first c.args.second _ _ z
+    rw (tiny_made (work_state g.S.CellStore.state c.make_pair.new.work) c.args.miny c.args.x c.args.first c.args.second _ _ z
     c.in_ok-pair.ensures.game
-    c.requires.first c.requires.second)) (tiny-canonical c.args.miny c.args.x c.requires.number)
+    c.requires.first c.requires.second) (tiny-canonical c.args.miny c.args.x c.requires.number)
 
 pub returns : goal.returns
 returns g c =
