@@ -1,0 +1,4 @@
+pub mod Handles
+pub mod Knowing
+pub mod Singles
+pub mod Sums
