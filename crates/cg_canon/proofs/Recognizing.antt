@@ -18,7 +18,7 @@ use Rattle.cg_nimbers.proofs.CanonicalNimbers.{nimber-canonical}
 use Rattle.cg_nimbers.proofs.IntegerMultiples.{equal_cancel, sum_second}
 use Rattle.cg_nimbers.proofs.NumberUpStars.{number_up_star-nimber, number_up_star-number, number_up_star-up}
 use Rattle.cg_nodes.specs.Can.{can}
-use Rattle.cg_nodes.specs.CanForms.{can-equal, can-fixed}
+use Rattle.cg_nodes.specs.CanLaw.{can-equal, can-fixed}
 use Rattle.cg_nodes.proofs.Forms.{can-same}
 use Rattle.cg_arena.specs.Arena as arena
 use Rattle.cg_arena.specs.Arena.{IsIndex, games_of}

@@ -6,7 +6,7 @@ use Rattle.cg_form.specs.Game.{Game, Games, more, node, none, number, of_list, o
 use Rattle.cg_form.specs.Shifted.{shifted, shifted_all}
 use Rattle.cg_form.specs.Sum.{sum}
 use Rattle.cg_nodes.specs.Can.{can}
-use Rattle.cg_nodes.specs.CanForms.{can-canonical, can-equal}
+use Rattle.cg_nodes.specs.CanLaw.{can-canonical, can-equal}
 use Rattle.cg_form.proofs.Shifted.{form_shifted}
 
 -- a canonical game with a number added throughout is the canonical form of the sum

@@ -10,7 +10,7 @@ use Rattle.cg_form.specs.Sum.{sum as plus, negative as minus}
 use Rattle.cg_form.proofs.Among.{of_list-to_list}
 use Rattle.cg_nodes.specs.Can.{can}
 use Rattle.cg_cells.specs.Store.{State}
-use Rattle.cg_nodes.specs.CanForms.{can-fixed}
+use Rattle.cg_nodes.specs.CanLaw.{can-fixed}
 use Rattle.cg_nodes.specs.Games.{IsGame, StandFor, StandsFor, game_at, games_at}
 use Rattle.cg_nodes.specs.Meant.{Meant}
 use Rattle.cg_nodes.proofs.Later.{stands_game, game_later, stand_later}

@@ -7,7 +7,7 @@ use Rattle.cg_cells.specs.Store.{State}
 use Rattle.cg_form.specs.Game.{Game}
 use Rattle.cg_form.specs.Order.{Equal}
 use Rattle.cg_nodes.specs.Can.{can}
-use Rattle.cg_nodes.specs.CanForms.{can-fixed}
+use Rattle.cg_nodes.specs.CanLaw.{can-fixed}
 use Rattle.cg_nodes.specs.Meant.{Meant}
 use Rattle.cg_form.specs.Positions.{positions_of}
 use Rattle.cg_nodes.proofs.Forms.{can-same}

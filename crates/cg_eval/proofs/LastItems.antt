@@ -17,7 +17,7 @@ use Rattle.cg_canon.specs.Items.{Item, made}
 use Rattle.cg_canon.specs.SumItems.{sum_items}
 use Rattle.cg_sum.specs.Lists.{negative_items, multiple_items}
 use Rattle.cg_nodes.proofs.Forms.{can-same}
-use Rattle.cg_nodes.specs.CanForms.{can-canonical, can-equal, can-fixed}
+use Rattle.cg_nodes.specs.CanLaw.{can-canonical, can-equal, can-fixed}
 use Rattle.cg_names.specs.Lists.{form_items, number_items, plain_item}
 use Rattle.cg_canon.specs.NumberItems.{number_made}
 use Rattle.cg_names.specs.Meaning.{fraction, literal, signed, or_zero}

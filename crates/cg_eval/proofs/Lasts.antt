@@ -13,7 +13,7 @@ use Rattle.cg_canon.specs.SumItems.{sum_items, pair_items, row_items, sum_item, 
 use Rattle.cg_sum.specs.Lists.{negative_items, multiple_items, step_items}
 use Rattle.cg_form.proofs.AllPositions.{positions_of-last}
 use Rattle.cg_nodes.specs.Can.{can}
-use Rattle.cg_nodes.specs.CanForms.{can-fixed}
+use Rattle.cg_nodes.specs.CanLaw.{can-fixed}
 use Rattle.cg_sum.proofs.Sums.{can-multiple_more, can-multiple_one, can-multiple_zero}
 
 -- no item of the list is out of range, and none is a list that is too long

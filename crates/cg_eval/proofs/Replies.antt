@@ -7,7 +7,7 @@ use Rattle.cg_form.specs.Order.{le}
 use Rattle.cg_form.specs.Sum.{nothing}
 use Rattle.cg_nodes.specs.Can.{can}
 use Rattle.cg_form.proofs.EqualGames.{le-equal, zero_is}
-use Rattle.cg_nodes.specs.CanForms.{can-equal}
+use Rattle.cg_nodes.specs.CanLaw.{can-equal}
 use Rattle.cg_nodes.specs.Meant.{Meant}
 use Rattle.cg_nodes.proofs.Later.{stands_later}
 use Rattle.cg_canon.specs.declared.fault.ValueFault.{ValueFault}

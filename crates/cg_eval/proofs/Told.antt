@@ -13,7 +13,7 @@ use Rattle.cg_form.specs.Stops as form_stops
 use Rattle.cg_form.specs.Sum.{nothing}
 use Rattle.cg_form.proofs.StopValues.{equal_stops}
 use Rattle.cg_nodes.specs.Can.{can}
-use Rattle.cg_nodes.specs.CanForms.{can-equal}
+use Rattle.cg_nodes.specs.CanLaw.{can-equal}
 use Rattle.cg_nodes.specs.Games.{StandsFor, game_at}
 use Rattle.cg_nodes.specs.Meant.{Meant}
 use Rattle.cg_nodes.proofs.Later.{stands_game, stands_later}

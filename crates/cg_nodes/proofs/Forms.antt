@@ -6,7 +6,7 @@ use Rattle.cg_form.specs.Known.{CopiesOf}
 use Rattle.cg_form.specs.Order.{Equal}
 use Rattle.cg_form.proofs.Among.{among_map, among_mapped}
 use Rattle.cg_nodes.specs.Can.{can}
-use Rattle.cg_nodes.specs.CanForms.{can-canonical, can-equal, can-unique}
+use Rattle.cg_nodes.specs.CanLaw.{can-canonical, can-equal, can-unique}
 use Rattle.cg_form.proofs.Exists.{copies_equal}
 use Rattle.cg_form.proofs.Preorder.{equal_trans}
 

@@ -12,7 +12,7 @@ use Rattle.cg_cells.specs.declared.key.KeyParts.{KeyParts}
 use Rattle.cg_cells.specs.declared.key.KeyParts.TheVariants as key
 use Rattle.cg_cells.specs.Layout.{FieldsFit, id_field}
 use Rattle.cg_cells.specs.Parts.{parts_of}
-use Rattle.cg_nodes.specs.CanForms.{is_canonical-true}
+use Rattle.cg_nodes.specs.CanLaw.{is_canonical-true}
 use Rattle.cg_nodes.specs.Meant.{Meant, form}
 use Rattle.cg_nodes.specs.Spelled.{Map, spelled, list_at}
 use Rattle.cg_nodes.specs.Inverse.{Inverse, inverse}

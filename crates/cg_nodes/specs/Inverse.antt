@@ -6,7 +6,7 @@ use Rattle.cg_form.specs.Canonical.{Canonical}
 use Rattle.cg_nodes.specs.Can.{is_canonical}
 use Rattle.cg_cells.specs.declared.key.KeyParts.{KeyParts}
 use Rattle.cg_cells.specs.declared.key.KeyParts.TheVariants as key
-use Rattle.cg_nodes.specs.CanForms.{is_canonical-back}
+use Rattle.cg_nodes.specs.CanLaw.{is_canonical-back}
 use Rattle.cg_nodes.specs.Meant.{Meant, form, list, contents, pair, board}
 use Rattle.cg_nodes.specs.Boards.{are_of_board}
 use Rattle.cg_nodes.specs.LongKeysLaw.{IsLongWritten, long_written}

@@ -13,5 +13,5 @@ pub mod Partings
 pub mod Walks
 -- what the implementation of `Facts` needs, by lemmas: that its laws hold
 pub mod LongKeysLaw
-pub mod CanForms
+pub mod CanLaw
 pub mod KeysLaw

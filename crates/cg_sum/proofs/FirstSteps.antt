@@ -28,7 +28,7 @@ use Rattle.cg_nimbers.specs.Nimbers.{nimber_form, nimber_over, nimbers_below}
 use Rattle.cg_nodes.proofs.Forms.{can-same}
 use Rattle.cg_nodes.proofs.Later.{stand_later, stands_later}
 use Rattle.cg_nodes.proofs.Members.{has_game}
-use Rattle.cg_nodes.specs.CanForms.{can-fixed}
+use Rattle.cg_nodes.specs.CanLaw.{can-fixed}
 use Rattle.cg_nodes.specs.Games.{StandsFor, game_at, games_at}
 use Rattle.cg_nodes.specs.Meant.{Meant}
 use Rattle.cg_sum.specs.Firsts.{AreFirst, HoldsCosts, HoldsFirst, IsPair, nimber_item}

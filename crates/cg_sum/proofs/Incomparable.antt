@@ -16,7 +16,7 @@ use Rattle.cg_form.proofs.Preorder.{le_trans}
 use Rattle.cg_form.proofs.Structure.{before_not_same}
 use Rattle.cg_form.proofs.SumLaws.{le-sum_second}
 use Rattle.cg_form.proofs.SumOrder.{le-sum}
-use Rattle.cg_nodes.specs.CanForms.{can-equal}
+use Rattle.cg_nodes.specs.CanLaw.{can-equal}
 use Rattle.cg_sum.specs.Written.{written_lefts, written_rights}
 use Rattle.cg_sum.proofs.Sums.{option_forms}
 

@@ -21,7 +21,7 @@ use Rattle.cg_form.proofs.Sum.{sum-options}
 use Rattle.cg_form.proofs.SumLaws.{le-sum_second, sum_comm, sum_nothing}
 use Rattle.cg_form.proofs.SumOrder.{sum-le}
 use Rattle.cg_form.proofs.Translation.{translation}
-use Rattle.cg_nodes.specs.CanForms.{can-equal, can-fixed}
+use Rattle.cg_nodes.specs.CanLaw.{can-equal, can-fixed}
 use Rattle.cg_nodes.specs.Games.{IsNode}
 use Rattle.cg_sum.specs.Written.{written_lefts, written_rights}
 use Rattle.cg_nimbers.proofs.NumberUpStars.{sum-numbers_equal}

@@ -6,7 +6,7 @@ use Rattle.cg_form.specs.Sum.{sum}
 use Rattle.cg_form.proofs.Shifted.{form_shifted, number_sum-zero}
 use Rattle.cg_cells.specs.Meaning.{Meaning, note_for}
 use Rattle.cg_nodes.specs.Can.{can}
-use Rattle.cg_nodes.specs.CanForms.{can-is}
+use Rattle.cg_nodes.specs.CanLaw.{can-is}
 use Rattle.cg_nodes.specs.Meant.{Meant, form, pair}
 use Rattle.cg_nimbers.specs.Nimbers.{zero_form}
 

@@ -17,7 +17,7 @@ use Rattle.cg_form.proofs.SumOrder.{sum-le}
 use Rattle.cg_form.specs.Game.{Game}
 use Rattle.cg_form.specs.Sum.{nothing, sum}
 use Rattle.cg_nodes.proofs.Forms.{can-same}
-use Rattle.cg_nodes.specs.CanForms.{can-equal}
+use Rattle.cg_nodes.specs.CanLaw.{can-equal}
 use Rattle.cg_nodes.specs.Games.{StandFor, StandsFor, games_at}
 use Rattle.cg_nodes.specs.Meant.{Meant}
 use Rattle.cg_moves.specs.Grid.{Grid}

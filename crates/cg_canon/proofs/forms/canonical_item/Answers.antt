@@ -1,6 +1,6 @@
 use Rattle.std.proofs.Common.{subst}
 use Rattle.cg_form.specs.Game.{Game}
-use Rattle.cg_nodes.specs.CanForms.{can-fixed}
+use Rattle.cg_nodes.specs.CanLaw.{can-fixed}
 use Rattle.cg_canon.specs.Made.{FormGiven}
 use Rattle.cg_canon.specs.Works.{work_state}
 use Rattle.cg_canon.proofs.forms.canonical_item.Goals as goal

@@ -1,6 +1,6 @@
 use Rattle.cg_form.specs.Game.{Game, node}
 use Rattle.cg_nodes.specs.Can.{can}
-use Rattle.cg_nodes.specs.CanForms.{can-canonical, can-is}
+use Rattle.cg_nodes.specs.CanLaw.{can-canonical, can-is}
 use Rattle.cg_arena.specs.Arena.{games_of}
 use Rattle.cg_canon.proofs.Charging.{new_written, outside_refused}
 use Rattle.cg_canon.proofs.MakingAt.{entered_none}

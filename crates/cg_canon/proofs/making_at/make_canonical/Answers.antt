@@ -1,6 +1,6 @@
 use Rattle.std.proofs.Common.{ap, refl, sym, ◌∙◌}
 use Rattle.cg_nodes.specs.Can.{can}
-use Rattle.cg_nodes.specs.CanForms.{can-fixed}
+use Rattle.cg_nodes.specs.CanLaw.{can-fixed}
 use Rattle.cg_arena.specs.Arena.{games_of}
 use Rattle.cg_canon.proofs.Charging.{canonical_node, same_node}
 use Rattle.cg_canon.proofs.Paying.{paid_later}

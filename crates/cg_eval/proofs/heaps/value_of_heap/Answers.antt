@@ -6,7 +6,7 @@ use Rattle.cg_canon.specs.declared.fault.ValueFault.TheVariants.{Memory}
 use Rattle.cg_names.specs.Lists.{form_items}
 use Rattle.cg_names.specs.Named.{nimber_form}
 use Rattle.cg_nimbers.proofs.CanonicalNimbers.{nimber-canonical}
-use Rattle.cg_nodes.specs.CanForms.{can-fixed}
+use Rattle.cg_nodes.specs.CanLaw.{can-fixed}
 use Rattle.cg_eval.specs.Octals.{heap_form, heap_items}
 use Rattle.cg_eval.specs.Progress.{Finds}
 use Rattle.cg_eval.specs.declared.fault.NoValue.TheVariants.{Refused}

@@ -2,7 +2,7 @@ use Rattle.std.proofs.Common.{false, sym}
 use Rattle.cg_canon.specs.Works.{work_state}
 use Rattle.cg_names.specs.Lists.{form_items}
 use Rattle.cg_names.specs.Named.{ups_form}
-use Rattle.cg_nodes.specs.CanForms.{can-fixed}
+use Rattle.cg_nodes.specs.CanLaw.{can-fixed}
 use Rattle.cg_eval.proofs.Expressions.{ups_gives}
 use Rattle.cg_names.proofs.UpForms.{ups-canonical}
 use Rattle.cg_eval.proofs.Steps.{gives_from}

@@ -1,5 +1,5 @@
 use Rattle.cg_nodes.proofs.laws.canonical_forms.Goals as goal
-use Rattle.cg_nodes.specs.CanForms.{can-is, can-only, is_canonical-back, is_canonical-true}
+use Rattle.cg_nodes.specs.CanLaw.{can-is, can-only, is_canonical-back, is_canonical-true}
 
 pub returns : goal.returns
 returns c = record {

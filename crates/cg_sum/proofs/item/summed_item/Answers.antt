@@ -1,7 +1,7 @@
 -- The sums of the options, which stand in the table, make the sum.
 use Rattle.std.proofs.Common.{arith, ap, sym, ◌∙◌, ◌⊎◌, length}
 use Rattle.cg_canon.specs.Works.{work_state}
-use Rattle.cg_nodes.specs.CanForms.{can-fixed}
+use Rattle.cg_nodes.specs.CanLaw.{can-fixed}
 use Rattle.cg_sum.proofs.ItemSteps.{given_form}
 use Rattle.cg_sum.proofs.Options.{lefts_apart_by, lefts_are, rights_apart_by, rights_are, side_is, summed_canonical, summed_form}
 use Rattle.cg_sum.proofs.Placed.{one_first, one_second}
