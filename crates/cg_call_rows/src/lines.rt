@@ -1,7 +1,7 @@
 //! Rows of the grammar. Of a line the question is written that it reads as, with each term in parentheses and each
 //! number as a fraction, or the column is told at which it is refused. A backslash and two digits of base sixteen stand
-//! for a byte. The line of `cuts` is cut before each of its bytes: each cut has to read, or to be refused where it ends.
-//! That of `statement` is a line of format 2, and that of `session` a session.
+//! for a byte. The line of `cuts` is cut before each of its bytes: each cut has to read, or to be refused where it
+//! ends. That of `statement` is a line of format 2, and that of `session` a session.
 ghost use Rattle.std.specs.Prelude.{◌≤◌};
 ghost use Rattle.cg_grammar.specs.Lines.{Reads};
 ghost use Rattle.cg_query.specs.Trees.{question_of};

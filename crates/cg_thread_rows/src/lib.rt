@@ -1,6 +1,6 @@
 //! Tests that need threads, a gate, a table that is kept, a store of its own, or readers and writers that fail: what
-//! cg_cells, cg_shared, cg_pool, cg_io and cg_session do where no row of text can ask. The expected values come from the
-//! textbook and from hand.
+//! cg_cells, cg_shared, cg_pool, cg_io and cg_session do where no row of text can ask. The expected values come from
+//! the textbook and from hand.
 #![tactic(auto)]
 
 #[cfg(test)]
