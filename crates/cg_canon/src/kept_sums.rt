@@ -27,9 +27,9 @@ pub(crate) struct KeptSums {
     places: LossyIndex,
 }
 
-/// A number for the pair.
+/// A number for the pair. Neither index is mixed into the other, since those of a running sum lie close together.
 fn number_of_pair(low: u32, high: u32) -> u32 {
-    half_of(mixed(high as u64, low))
+    half_of(mixed(mixed(1, low), high))
 }
 
 /// The two, the lesser first.
