@@ -7,7 +7,7 @@ from typing import NoReturn
 from cgcalc.program import ProgramMissing, find_program
 
 VERSION = "1.1.0"
-KIT = "rattle-kit-13f logic dac8208d650f15bf"
+KIT = "rattle-kit-13b logic dac8208d650f15bf"
 
 
 def version_text(command: str) -> str:
