@@ -1,6 +1,6 @@
 -- Boards that were found, with the numbers of their keys.
 use Rattle.std.proofs.Common.{◌≡◌, refl, ℕ, zero, suc, ◌<◌, inl, inr, List, [], ◌∷◌, ◌++◌, get_or, length, ap, sym, ◌∙◌, arith}
-use Rattle.std.specs.Prelude.{IfNone, IfSome, None, Option, Some, map}
+use Rattle.std.specs.Prelude.{Err, IfNone, IfOk, IfSome, None, Ok, Option, Result, Some, map}
 use Rattle.std.proofs.lemmas.List.{length-map, map-append}
 use Rattle.cg_moves.specs.declared.key.BoardKey.{BoardKey}
 use Rattle.cg_moves.specs.Found.{SameSymbols, AreNumbers, HasKeyAt}
@@ -11,7 +11,7 @@ use Rattle.cg_moves.specs.Keys.{AreGrids, key_number, key_of}
 use Rattle.cg_moves.proofs.KeyLemmas.{one-key}
 use Rattle.cg_form.proofs.Firsts.{in-append, in-append_left, in-append_right}
 use Rattle.cg_moves.proofs.Members.{in_one}
-use Rattle.cg_moves.proofs.PlaceLemmas.{in-at}
+use Rattle.cg_moves.proofs.PlaceLemmas.{at-last, in-at}
 
 -- ---- keys at places
 
@@ -92,3 +92,9 @@ if_some_then P Q None p h = tt
 pub if_none_then : {X : Type 0} (P Q : Type 0) (o : Option X) → IfNone o P → (P → Q) → IfNone o Q
 if_none_then P Q (Some x) p h = tt
 if_none_then P Q None p h = h p
+
+-- a board that is put behind others has the number after theirs
+pub put-number : {E : Type 0} (old new : List Grid) (q p : Grid) → q ≡ p → (r : Result ℕ E) → IfOk r (λ _. new ≡ old ++ (q ∷ []))
+    → IfOk r (λ n. n ≡ length old) → IfOk r (λ n. IsAt new n p)
+put-number {E} old new q p same (Ok n) e k = rw e (rw k (rw same (at-last old p)))
+put-number {E} old new q p same (Err x) e k = tt

@@ -1,15 +1,12 @@
--- Boards that are to be left: above each stand tasks of boards with a lower measure, and it wasn't visited; and what tasks do to
--- a list of boards.
-use Rattle.std.proofs.Common.{◌≡◌, refl, true, inl, inr, List, [], ◌∷◌, ◌++◌, append_assoc, ap, sym, arith, length}
+-- Boards that are to be left: above each stand tasks of boards with a lower measure, and it wasn't visited.
+use Rattle.std.proofs.Common.{◌≡◌, refl, true, inl, inr, List, [], ◌∷◌, ◌++◌, append_assoc, ap, arith}
 use Rattle.std.proofs.lemmas.List.{append-nil}
-use Rattle.cg_moves.specs.declared.task.Entered.{Entered}
 use Rattle.cg_moves.specs.Grid.{Grid}
 use Rattle.cg_moves.specs.Plays.{IsPlay, Play}
 use Rattle.cg_moves.specs.Rules.{In}
 use Rattle.cg_moves.specs.Walks.{AreOpen, Enters, Leaves, Visit, entered, visit_board}
 use Rattle.cg_form.proofs.Firsts.{in-append, in-append_left, in-append_right}
 use Rattle.cg_moves.proofs.Members.{in_one}
-use Rattle.cg_moves.specs.Walking.{Does, Leads}
 
 module _ (r : Play) where
   pub open-front : (visited : List Grid) (ts us : List Visit) → AreOpen r visited (ts ++ us) → AreOpen r visited ts
@@ -17,7 +14,7 @@ module _ (r : Play) where
   open-front visited (Enters p ∷ ts) us h = open-front visited ts us h
   open-front visited (Leaves e ∷ ts) us h = (h.0, (λ t m. h.1 t (in-append_left t ts us m)), open-front visited ts us h.2)
 
-  pub open-last : (visited : List Grid) (ts : List Visit) (e : Entered) → AreOpen r visited (ts ++ (Leaves e ∷ [])) → ¬ In e.board visited
+  pub open-last : (visited : List Grid) (ts : List Visit) (e : Grid) → AreOpen r visited (ts ++ (Leaves e ∷ [])) → ¬ In e visited
   open-last visited [] e h = h.0
   open-last visited (Enters q ∷ ts) e h = open-last visited ts e h
   open-last visited (Leaves f ∷ ts) e h = open-last visited ts e h.2
@@ -38,17 +35,17 @@ module _ (r : Play) where
   ]
 
   -- a new board is entered
-  pub open-new : IsPlay r → (visited : List Grid) (ts : List Visit) (e : Entered) → r.has e.board ≡ true → ¬ In e.board visited
-      → AreOpen r visited (ts ++ (Enters e.board ∷ [])) → AreOpen r visited ((ts ++ (Leaves e ∷ [])) ++ entered (r.next e.board))
+  pub open-new : IsPlay r → (visited : List Grid) (ts : List Visit) (e : Grid) → r.has e ≡ true → ¬ In e visited
+      → AreOpen r visited (ts ++ (Enters e ∷ [])) → AreOpen r visited ((ts ++ (Leaves e ∷ [])) ++ entered (r.next e))
   open-new lawful visited [] e has out h = (
     out,
-    (λ t m. lawful.lowers e.board (visit_board t) has (entered-among (r.next e.board) t m)),
-    open-entered visited (r.next e.board),
+    (λ t m. lawful.lowers e (visit_board t) has (entered-among (r.next e) t m)),
+    open-entered visited (r.next e),
   )
   open-new lawful visited (Enters q ∷ ts) e has out h = open-new lawful visited ts e has out h
   open-new lawful visited (Leaves f ∷ ts) e has out h = (
     h.0,
-    (λ t m. (let p = e.board in
+    (λ t m. (let p = e in
         let low = h.1 (Enters p) (in-append_right (Enters p) ts (Enters p ∷ []) (inl refl)) in
         elim (in-append t (ts ++ (Leaves e ∷ [])) (entered (r.next p)) m) [
           | inl o ↦ elim (in-append t ts (Leaves e ∷ []) o) [
@@ -61,46 +58,16 @@ module _ (r : Play) where
   )
 
   -- the last board is visited
-  pub open-visited : (visited : List Grid) (ts : List Visit) (e : Entered) → AreOpen r visited (ts ++ (Leaves e ∷ []))
-      → AreOpen r (visited ++ (e.board ∷ [])) ts
+  pub open-visited : (visited : List Grid) (ts : List Visit) (e : Grid) → AreOpen r visited (ts ++ (Leaves e ∷ []))
+      → AreOpen r (visited ++ (e ∷ [])) ts
   open-visited visited [] e h = tt
   open-visited visited (Enters q ∷ ts) e h = open-visited visited ts e h
   open-visited visited (Leaves f ∷ ts) e h = (
-    λ m. elim (in-append f.board visited (e.board ∷ []) m) [
+    λ m. elim (in-append f visited (e ∷ []) m) [
       | inl there ↦ h.0 there
       | inr last ↦ (let low = h.1 (Leaves e) (in-append_right (Leaves e) ts (Leaves e ∷ []) (inl refl)) in
-          let same = ap r.measure (in_one f.board e.board last) in absurd (omega (arith, low, same)))
+          let same = ap r.measure (in_one f e last) in absurd (omega (arith, low, same)))
     ],
     (λ t m. h.1 t (in-append_left t ts (Leaves e ∷ []) m)),
     open-visited visited ts e h.2,
   )
-
-module _ (r : Play) where
-  pub leads-append : (ts us : List Visit) (before some after : List Grid) → Leads r us before some → Leads r ts some after
-      → Leads r (ts ++ us) before after
-  leads-append [] us before some after h k = rw (← k) h
-  leads-append (t ∷ ts) us before some after h k = (k.0, leads-append ts us before some k.0 h k.1, k.2)
-
-  -- what the last task does, and then the others
-  pub leads-last : (ts : List Visit) (t : Visit) (before after : List Grid) → Leads r (ts ++ (t ∷ [])) before after
-      → (some : List Grid) × Does r t before some × Leads r ts some after
-  leads-last [] t before after h =
-      (after, rw h.1 h.2, refl)
-  leads-last (u ∷ ts) t before after h =
-      let (some, d, l) = leads-last ts t before h.0 h.1 in (some, d, (h.0, l, h.2))
-
-  -- the boards that are entered are put behind the others
-  pub leads-entered : (ps before : List Grid) → Leads r (entered ps) before (before ++ ps)
-  leads-entered [] before = sym (append-nil before)
-  leads-entered (p ∷ ps) before =
-      rw (← (append_assoc before (p ∷ []) ps)) (leads-append (entered ps) (Enters p ∷ []) before (before ++ (p ∷ []))
-      ((before ++ (p ∷ [])) ++ ps) (before, refl, refl) (leads-entered ps (before ++ (p ∷ []))))
-
-  -- a task to enter a board is as good as those to enter what comes next after it, and then to leave it
-  pub leads-new : (ts : List Visit) (e : Entered) (before after : List Grid) → Leads r (ts ++ (Enters e.board ∷ [])) before after
-      → e.pending ≡ length before → Leads r ((ts ++ (Leaves e ∷ [])) ++ entered (r.next e.board)) before after
-  leads-new ts e before after h size =
-      let (some, d, l) = leads-last ts (Enters e.board) before after h in
-      leads-append (ts ++ (Leaves e ∷ [])) (entered (r.next e.board)) before (before ++ r.next e.board) after
-      (leads-entered (r.next e.board) before) (leads-append ts (Leaves e ∷ []) (before ++ r.next e.board) some after
-      (before ++ r.next e.board, refl, (before, refl, d, size)) l)

@@ -21,7 +21,7 @@ module _ (r : GameRules) (cut : Grid → List Grid) where
   }
 
   module _ (counts places cs ks : List ℕ) where
-    next-more : (before : List Grid) (p : Grid) (n : Adjacency) → IsNext r cut counts places before p n
+    pub next-more : (before : List Grid) (p : Grid) (n : Adjacency) → IsNext r cut counts places before p n
         → IsNext r cut (counts ++ cs) (places ++ ks) before p n
     next-more before p n h =
         let l = length-append places ks in

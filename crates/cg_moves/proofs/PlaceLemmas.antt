@@ -1,5 +1,5 @@
 -- Boards by their places in lists.
-use Rattle.std.proofs.Common.{◌≡◌, refl, ℕ, zero, suc, ◌<◌, inl, inr, List, [], ◌∷◌, ◌++◌, length, sym, arith, take, drop, get_or}
+use Rattle.std.proofs.Common.{◌≡◌, refl, ℕ, zero, suc, ◌<◌, inl, inr, List, [], ◌∷◌, ◌++◌, length, sym, arith, get_or}
 use Rattle.cg_moves.specs.Grid.{Grid}
 use Rattle.cg_moves.specs.Graph.{IsAt, StandAt}
 use Rattle.cg_moves.specs.Rules.{In}
@@ -52,14 +52,3 @@ stand-size list [] [] h = refl
 stand-size list [] (q ∷ qs) h = absurd h
 stand-size list (n ∷ ns) [] h = absurd h
 stand-size list (n ∷ ns) (q ∷ qs) h = let l = stand-size list ns qs h.1 in omega arith
-
--- the places of the first of the boards, and those of the others
-pub stand-front : (list : List Grid) (ns : List ℕ) (qs rs : List Grid) → StandAt list ns (qs ++ rs) → StandAt list (take (length qs) ns) qs
-stand-front list ns [] rs h = tt
-stand-front list [] (q ∷ qs) rs h = absurd h
-stand-front list (n ∷ ns) (q ∷ qs) rs h = (h.0, stand-front list ns qs rs h.1)
-
-pub stand-behind : (list : List Grid) (ns : List ℕ) (qs rs : List Grid) → StandAt list ns (qs ++ rs) → StandAt list (drop (length qs) ns) rs
-stand-behind list ns [] rs h = h
-stand-behind list [] (q ∷ qs) rs h = absurd h
-stand-behind list (n ∷ ns) (q ∷ qs) rs h = stand-behind list ns qs rs h.1

@@ -11,7 +11,7 @@ use Rattle.cg_moves.specs.Grid.{Grid, with_cells}
 use Rattle.cg_moves.specs.Kept.{kept}
 use Rattle.cg_moves.specs.Lawful.{ArePieces, IsLawful}
 use Rattle.cg_moves.specs.PieceReach.{all_piece_reached, piece_reach_of}
-use Rattle.cg_moves.specs.Plays.{IsPlay, MayGo, next_pieces, parts_of, pieces_after, play_of}
+use Rattle.cg_moves.specs.Plays.{IsPlay, MayGo, next_pieces, pieces_after, play_of}
 use Rattle.cg_moves.specs.Reach.{all_reached, reach_of}
 use Rattle.cg_moves.specs.Rules.{GameRules, In, boards_after, followers, pieces}
 use Rattle.cg_moves.specs.Walks.{AreStarts}
@@ -33,12 +33,6 @@ module _ (r : GameRules) (lawful : IsLawful r) where
       let go : (player : Player) → In q (boards_after r player p) → q.symbols ≡ p.symbols = λ player k.
       (let (cells, n, e) = in-map (with_cells p) q (r.moves player p) k in ap (λ z. z.symbols) e) in
       elim (in-append q (boards_after r Left p) (boards_after r Right p) m) [ inl k ↦ go Left k | inr k ↦ go Right k ]
-
-  -- each part of a board is its own only part
-  pub part-uncut : (edges : Edges) → MayGo r edges → (p q : Grid) → r.has p ≡ true → In q (parts_of r edges p)
-      → parts_of r edges q ≡ q ∷ []
-  part-uncut Moves may p q has m = refl
-  part-uncut Pieces may p q has m = (lawful.cut may).each.uncut p q has m
 
   pub by-moves : IsPlay (play_of r Moves)
   by-moves = record {

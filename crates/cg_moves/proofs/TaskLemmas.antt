@@ -2,17 +2,12 @@
 use Rattle.std.proofs.Common.{◌≡◌, refl, true, ◌⊎◌, inl, inr, List, [], ◌∷◌, ◌++◌, append_assoc, ap, sym, ◌∙◌}
 use Rattle.std.specs.List.{flat_map}
 use Rattle.std.proofs.lemmas.List.{append-nil}
-use Rattle.cg_moves.specs.declared.task.Entered.{Entered}
 use Rattle.cg_moves.specs.Grid.{Grid}
 use Rattle.cg_moves.specs.Plays.{Play}
 use Rattle.cg_moves.specs.Rules.{In}
 use Rattle.cg_moves.specs.Walks.{AreKnown, AreReady, Visit, Enters, Leaves, boards_left, entered, visit_boards}
 use Rattle.cg_form.proofs.Firsts.{in-append, in-append_left, in-append_right}
 use Rattle.cg_moves.proofs.Members.{carry}
-
-pub entered-append : (ps qs : List Grid) → entered (ps ++ qs) ≡ entered qs ++ entered ps
-entered-append [] qs = sym (append-nil (entered qs))
-entered-append (p ∷ ps) qs = ap (λ z. z ++ (Enters p ∷ [])) (entered-append ps qs) ∙ append_assoc (entered qs) (entered ps) (Enters p ∷ [])
 
 module _ (r : Play) where
   -- ---- what is left to see
@@ -59,8 +54,8 @@ module _ (r : Play) where
     ready-change visited wider t ts us sub cover h.1 k,
   )
 
-  pub ready-last : (visited : List Grid) (e : Entered) (ts : List Visit) → AreReady r visited (ts ++ (Leaves e ∷ [])) → (q : Grid)
-      → In q (flat_map r.all (r.next e.board)) → In q visited
+  pub ready-last : (visited : List Grid) (e : Grid) (ts : List Visit) → AreReady r visited (ts ++ (Leaves e ∷ [])) → (q : Grid)
+      → In q (flat_map r.all (r.next e)) → In q visited
   ready-last visited e [] h q m = elim (h.0 q m) [ inl there ↦ there | inr nothing ↦ absurd nothing ]
   ready-last visited e (t ∷ ts) h q m = ready-last visited e ts h.1 q m
 

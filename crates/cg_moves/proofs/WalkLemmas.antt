@@ -2,7 +2,6 @@
 use Rattle.std.proofs.Common.{◌≡◌, true, inl, inr, List, [], ◌∷◌, ◌++◌, append_assoc, ap, sym, ◌∙◌}
 use Rattle.std.specs.List.{flat_map}
 use Rattle.std.proofs.lemmas.List.{append-nil}
-use Rattle.cg_moves.specs.declared.task.Entered.{Entered}
 use Rattle.cg_moves.specs.Grid.{Grid}
 use Rattle.cg_moves.specs.Kept.{kept, one_more}
 use Rattle.cg_moves.specs.Plays.{IsPlay, Play}
@@ -31,26 +30,26 @@ module _ (r : Play) where
               ∙ ap (λ z. kept z (boards_left r tasks)) (extended-there boards visited (r.all p) (λ k n. w.closed p m k n)));
         }
 
-  module _ (lawful : IsPlay r) (visited : List Grid) (tasks : List Visit) (e : Entered) where
+  module _ (lawful : IsPlay r) (visited : List Grid) (tasks : List Visit) (e : Grid) where
     entered_tasks : List Visit
-    entered_tasks = (Leaves e ∷ []) ++ entered (r.next e.board)
+    entered_tasks = (Leaves e ∷ []) ++ entered (r.next e)
 
     -- the boards that are left are those of the board
-    entered_left : r.has e.board ≡ true → boards_left r entered_tasks ≡ r.all e.board
+    entered_left : r.has e ≡ true → boards_left r entered_tasks ≡ r.all e
     unfolding entered_tasks
-    entered_left has = ap (λ z. z ++ (e.board ∷ [])) (boards_left-entered r (r.next e.board)) ∙ sym (lawful.all e.board has)
+    entered_left has = ap (λ z. z ++ (e ∷ [])) (boards_left-entered r (r.next e)) ∙ sym (lawful.all e has)
 
-    entered_rest : r.has e.board ≡ true
-        → kept visited (boards_left r (tasks ++ entered_tasks)) ≡ kept visited (boards_left r (tasks ++ (Enters e.board ∷ [])))
+    entered_rest : r.has e ≡ true
+        → kept visited (boards_left r (tasks ++ entered_tasks)) ≡ kept visited (boards_left r (tasks ++ (Enters e ∷ [])))
     entered_rest has = ap (kept visited) (boards_left-append r tasks entered_tasks
-        ∙ ap (λ z. z ++ boards_left r tasks) (entered_left has) ∙ sym (boards_left-append r tasks (Enters e.board ∷ [])))
+        ∙ ap (λ z. z ++ boards_left r tasks) (entered_left has) ∙ sym (boards_left-append r tasks (Enters e ∷ [])))
 
     -- another board is entered
-    pub enter_new : IsWalk r visited (tasks ++ (Enters e.board ∷ []))
-        → GoesOn r visited visited (tasks ++ (Enters e.board ∷ [])) ((tasks ++ (Leaves e ∷ [])) ++ entered (r.next e.board))
+    pub enter_new : IsWalk r visited (tasks ++ (Enters e ∷ []))
+        → GoesOn r visited visited (tasks ++ (Enters e ∷ [])) ((tasks ++ (Leaves e ∷ [])) ++ entered (r.next e))
     unfolding entered_tasks
     enter_new w =
-        let p = e.board in
+        let p = e in
         let known = known-back r tasks (Enters p ∷ []) w.known in
         rw (append_assoc tasks (Leaves e ∷ []) (entered (r.next p))) (record {
           walk = record {
@@ -70,10 +69,10 @@ module _ (r : Play) where
         })
 
     -- a board is left
-    pub leave : (more : List Grid) → IsWalk r visited (tasks ++ (Leaves e ∷ [])) → more ≡ one_more visited e.board
+    pub leave : (more : List Grid) → IsWalk r visited (tasks ++ (Leaves e ∷ [])) → more ≡ one_more visited e
         → GoesOn r visited more (tasks ++ (Leaves e ∷ [])) tasks
     leave more w is =
-        let p = e.board in
+        let p = e in
         let known = known-back r tasks (Leaves e ∷ []) w.known in
         let has_more : (q : Grid) → In q visited → In q more = λ q m.
         carry q (one_more visited p) more (sym is) (one_more-keeps boards visited p q m) in

@@ -23,4 +23,6 @@ pub mod Kept
 pub mod Walks
 pub mod Found
 pub mod Walking
+pub mod Linked
+pub mod Visiting
 pub mod Rises

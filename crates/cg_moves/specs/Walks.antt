@@ -1,7 +1,6 @@
 -- A walk over boards: what is left to do, and what it adds to what was visited.
 use Rattle.std.specs.Prelude.{◌≡◌, ◌⊎◌, ℕ, ◌<◌, true, List, [], ◌∷◌, ◌++◌}
 use Rattle.std.specs.List.{flat_map}
-use Rattle.cg_moves.specs.declared.task.Entered.{Entered}
 use Rattle.cg_moves.specs.Grid.{Grid}
 use Rattle.cg_moves.specs.Kept.{kept}
 use Rattle.cg_moves.specs.Plays.{Play}
@@ -10,12 +9,12 @@ use Rattle.cg_moves.specs.Rules.{In}
 -- what a task does: to enter a board is to see all that come after it and the board itself, and to leave it is to see it alone
 pub data Visit : Type 0 where
   Enters : Grid → Visit
-  Leaves : Entered → Visit
+  Leaves : Grid → Visit
 
 -- the boards of a task
 abbrev pub visit_boards : Play → Visit → List Grid
 visit_boards r (Enters p) = r.all p
-visit_boards r (Leaves e) = e.board ∷ []
+visit_boards r (Leaves p) = p ∷ []
 
 -- the boards of the tasks, the last task first
 abbrev pub boards_left : Play → List Visit → List Grid
@@ -34,7 +33,7 @@ IsClosed r visited = (p : Grid) → In p visited → (q : Grid) → In q (r.all 
 -- where a board is to be left, those that come after its next boards were visited or are left to see before
 abbrev pub IsReady : Play → List Grid → Visit → List Visit → Type 0
 IsReady r visited (Enters p) before = Unit {0}
-IsReady r visited (Leaves e) before = (q : Grid) → In q (flat_map r.all (r.next e.board))
+IsReady r visited (Leaves p) before = (q : Grid) → In q (flat_map r.all (r.next p))
     → In q visited ⊎ In q (boards_left r before)
 
 abbrev pub AreReady : Play → List Grid → List Visit → Type 0
@@ -43,7 +42,7 @@ AreReady r visited (t ∷ ts) = IsReady r visited t ts × AreReady r visited ts
 
 abbrev pub visit_board : Visit → Grid
 visit_board (Enters p) = p
-visit_board (Leaves e) = e.board
+visit_board (Leaves p) = p
 
 -- the boards of the tasks are such boards
 abbrev pub AreKnown : Play → List Visit → Type 0
@@ -70,5 +69,5 @@ pub record GoesOn (r : Play) (old new : List Grid) (before after : List Visit) :
 abbrev pub AreOpen : Play → List Grid → List Visit → Type 0
 AreOpen r visited [] = Unit {0}
 AreOpen r visited (Enters p ∷ ts) = AreOpen r visited ts
-AreOpen r visited (Leaves e ∷ ts) = (¬ In e.board visited) × ((t : Visit) → In t ts → r.measure (visit_board t) < r.measure e.board)
+AreOpen r visited (Leaves p ∷ ts) = (¬ In p visited) × ((t : Visit) → In t ts → r.measure (visit_board t) < r.measure p)
     × AreOpen r visited ts

@@ -3,11 +3,13 @@ ghost use Rattle.std.specs.Prelude.{◌≡◌, ◌+◌, ◌<◌, ◌≤◌, ◌�
 ghost use Rattle.cg_moves.specs.Found.{SameSymbols, HasKeyAt};
 ghost use Rattle.cg_moves.specs.Kept.{one_more};
 ghost use Rattle.cg_moves.specs.Graph.{IsAt};
+ghost use Rattle.cg_moves.specs.Grid.{IsGrid};
+ghost use Rattle.cg_moves.specs.Keys.{key_number, key_of};
 ghost use Rattle.cg_moves.specs.Rules.{In};
 
-use crate::{Board, BoardKey, ReachFault};
+use crate::{Board, BoardKey};
 use cg_hash_index::HashIndex;
-use std::alloc::Global;
+use std::alloc::{AllocError, Global};
 use std::marker::Model;
 
 /// Whether the board with the number, if there is one, has this key.
@@ -72,67 +74,47 @@ impl Found {
         &self.boards[number]
     }
 
-    /// The number of the board, if it was found. All have the same symbols.
+    /// The number of the board whose key has this number, if it was found. All have the same symbols.
     #[inline(always)]
-    pub(crate) fn known(&self, board: &Board) -> Option<usize>
-        requires { SameSymbols (self.now ++ (board.now ∷ [])) }
+    fn known(&self, board: &Board, key_hash: u32) -> Option<usize>
+        requires same_symbols { SameSymbols (self.now ++ (board.now ∷ [])) }
+        requires hash { key_hash ≡ key_number (key_of board.now) }
         ensures number { IfSome result (λ number. IsAt self.now number board.now) }
         ensures new { IfNone result (¬ In board.now self.now) }
     {
         let key = board.key();
         let boards = self.boards.as_slice();
         self.by_number
-            .find(key.number(), |number| has_key(boards, number, &key))
+            .find(key_hash, |number| has_key(boards, number, &key))
     }
 
-    /// Puts a new board behind the others, and gives its number. All have the same symbols. `Positions` comes where
-    /// that would make more boards than the limit.
-    #[inline(always)]
-    pub(crate) fn put(&mut self, board: Board, limit: u64) -> Result<usize, ReachFault>
+    /// Puts a new board, whose key has this number, behind the others, and gives its number. All have the same symbols.
+    #[inline(never)]
+    fn put(&mut self, board: Board, key_hash: u32) -> Result<usize, AllocError>
         requires same_symbols { SameSymbols (self.old ++ (board ∷ [])) }
-        requires new { ¬ In board self.old }
-        requires within { length self.old ≤ limit }
+        requires grid { IsGrid board }
+        requires hash { key_hash ≡ key_number (key_of board) }
         ensures boards { IfOk result (λ _. self.new ≡ self.old ++ (board ∷ [])) }
         ensures number { IfOk result (λ number. number ≡ length self.old) }
-        ensures within { IfOk result (λ _. length self.new ≤ limit) }
-        ensures refused { result ≡ Err ReachFault.Positions → limit < length self.old + 1 }
     {
         let number = self.boards.len();
-        if number as u64 >= limit {
-            return Err(ReachFault::Positions);
-        }
         self.boards.reserve(1)?;
-        self.by_number.add(board.key().number())?;
+        self.by_number.add(key_hash)?;
         self.boards.push(board)?;
         Ok(number)
     }
 
-    /// Puts a board behind the others, unless it was found. All have the same symbols. `Positions` comes where that
-    /// would make more boards than the limit.
-    pub(crate) fn find(&mut self, board: Board, limit: u64) -> Result<(), ReachFault>
-        requires same_symbols { SameSymbols (self.old ++ (board ∷ [])) }
-        requires within { length self.old ≤ limit }
-        ensures boards { IfOk result (λ _. self.new ≡ one_more self.old board) }
-        ensures within { IfOk result (λ _. length self.new ≤ limit) }
-        ensures refused { result ≡ Err ReachFault.Positions → limit < length (one_more self.old board) }
+    /// The number of the board, which is put behind the others, unless it was found. All have the same symbols.
+    #[inline(always)]
+    pub(crate) fn number_of(&mut self, alloc: Global, board: &Board) -> Result<usize, AllocError>
+        requires { SameSymbols (self.old ++ (board.now ∷ [])) }
+        ensures boards { IfOk result (λ _. self.new ≡ one_more self.old board.now) }
+        ensures number { IfOk result (λ number. IsAt self.new number board.now) }
     {
-        match self.known(&board) {
-            Some(_) => Ok(()),
-            None => {
-                self.put(board, limit)?;
-                Ok(())
-            }
+        let key_hash = board.key().number();
+        match self.known(board, key_hash) {
+            Some(number) => Ok(number),
+            None => self.put(board.copy(alloc)?, key_hash),
         }
-    }
-
-    /// The boards, by their numbers.
-    pub(crate) fn into_boards(self) -> Vec<Board>
-        ensures { result.items ≡ self }
-    {
-        let Found {
-            boards,
-            by_number: _,
-        } = self;
-        boards
     }
 }

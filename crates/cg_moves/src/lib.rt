@@ -3,15 +3,14 @@
 
 mod board;
 mod boards;
-mod breadth;
 mod edges;
 mod fault;
-mod following;
 mod found;
 mod graph;
 mod grid;
 mod key;
 pub mod laws;
+mod linking;
 mod ordering;
 mod pieces;
 mod planes;
@@ -19,7 +18,6 @@ mod player;
 mod pushing;
 mod reaching;
 mod rules;
-mod task;
 mod walk;
 pub mod words;
 mod writing;

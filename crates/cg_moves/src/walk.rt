@@ -1,174 +1,180 @@
-//! A walk over the boards that play comes to: each is visited as soon as all that come after it were.
-ghost use Rattle.std.specs.Prelude.{◌≡◌, ◌<◌, ◌≤◌, ◌∷◌, ◌++◌, [], IfOk, OnOk, drop, length, take, Err};
+//! A walk over the parts that play comes to: each is visited as soon as all that come after it were.
+ghost use Rattle.std.specs.Prelude.{◌≡◌, ◌-◌, ◌<◌, ◌≤◌, ◌∷◌, ◌++◌, []};
+ghost use Rattle.std.specs.Prelude.{All, Err, List, IfNone, IfOk, IfSome, OnOk, get_or, length, map};
 ghost use Rattle.cg_moves.specs.Graph.{AreNext, StandAt};
-ghost use Rattle.cg_moves.specs.Plays.{IsPlay, MayGo, parts_of, play_of};
-ghost use Rattle.cg_moves.specs.Walking.{AreUncut, IsWalking, Walk, work_left, parts, play, reached, walk_of};
-ghost use Rattle.cg_moves.specs.Walks.{AreStarts};
-ghost use Rattle.cg_moves.specs.declared.task.Task.TheVariants.{Enter, Known, Leave};
+ghost use Rattle.cg_moves.specs.Linked.{CanLink};
+ghost use Rattle.cg_moves.specs.Visiting.{CanVisit, IsInside, IsStep, IsVisiting, board_at, visits_by};
+ghost use Rattle.cg_moves.specs.Walking.{Walk, parts, play, reached, walk_of};
+ghost use Rattle.cg_moves.specs.Walks.{Enters, Leaves, Visit, entered};
 
-use crate::breadth::search_breadth;
 use crate::edges::Edges;
-use crate::following::{Followers, append_reversed, enter_next, list_followers};
-use crate::found::Found;
+use crate::linking::{Linked, linked_from};
 use crate::pushing::push;
-use crate::task::{Entered, Task, enter_all};
 use crate::{Adjacency, Board, Boards, PositionGraph, ReachFault, Rules};
 use std::alloc::{AllocError, Global};
 
-/// The boards that were visited, in their order, with what comes next after each of them; and the pending places: those
-/// of boards that come next after a board that was entered and isn't left yet, and of starts.
+/// The parts that were visited, in their order, with what comes next after each of them.
 #[derive(Drop)]
 pub(crate) struct Visited {
-    boards: Found,
-    next: Vec<Adjacency>,
-    counts: Vec<usize>,
-    places: Vec<usize>,
-    pending: Vec<usize>,
+    pub(crate) boards: Vec<Board>,
+    pub(crate) next: Vec<Adjacency>,
+    pub(crate) places: Vec<usize>,
+    /// For each part, by its number, how many were visited up to it, and with it; 0 where it wasn't.
+    pub(crate) ranks: Vec<usize>,
 }
 
-/// Enters the board. If it was visited, its place is one of the pending ones. If not, the parts of the boards that
-/// moves lead to are to be entered, and then the board is to be left.
-fn enter<R: Rules>(
-    alloc: Global,
-    rules: &R,
-    edges: Edges,
-    visited: &mut Visited,
-    tasks: &mut Vec<Task>,
-    all: &mut Followers,
-    board: Board,
-) -> Result<(), AllocError>
+/// A part that was entered: its number, and where the numbers stand of the parts that come next after it and are left
+/// to visit.
+#[derive(Clone, Copy)]
+pub(crate) struct Open {
+    pub(crate) number: usize,
+    pub(crate) next: usize,
+    pub(crate) end: usize,
+}
+
+/// Enters the part with the number.
+#[inline(always)]
+fn opened(linked: &Linked, number: usize) -> Open
     ghost walk: { Walk }
-    requires walk { walk ≡ walk_of (R.game rules.now) edges walk.starts }
-    requires may { MayGo (R.game rules.now) edges }
-    requires known { AreStarts (play walk) walk.starts }
-    requires uncut { AreUncut (parts walk) (reached walk) }
-    requires walking { IsWalking walk visited.old (tasks.old.items ++ (Enter board ∷ [])) }
-    ensures boards { visited.new.boards ≡ visited.old.boards }
-    ensures walking { IfOk result (λ _. IsWalking walk visited.new tasks.new.items) }
-    ensures less { IfOk result (λ _. work_left (play walk) tasks.new.items
-        < work_left (play walk) (tasks.old.items ++ (Enter board ∷ []))) }
+    requires can { CanVisit walk linked.now }
+    requires number { number < length linked.now.found }
+    ensures inside { IsInside linked.now.found linked.now.numbers.items result }
+    ensures visits { visits_by linked.now.found linked.now.numbers.items result
+        ≡ Leaves (board_at linked.now.found number) ∷ entered ((play walk).next (board_at linked.now.found number)) }
 {
-    // Called for the proof alone: the rules are lawful.
-    rules.lawful();
-    if let Some(place) = visited.boards.known(&board) {
-        push(&mut visited.pending, place)?;
-        return Ok(());
+    let next = linked.next[number];
+    Open {
+        number,
+        next: next.first_place,
+        end: next.first_place + next.parts,
     }
-    list_followers(alloc, rules, &board, all)?;
-    let entered = Entered {
-        board,
-        lefts: all.lefts.len(),
-        first_count: visited.counts.len(),
-        moves: all.lefts.len() + all.rights.len(),
-        pending: visited.pending.len(),
-    };
-    push(tasks, Task::Leave(entered))?;
-    enter_next(alloc, rules, edges, &visited.boards, all, tasks)?;
-    append_reversed(&mut all.counts, &mut visited.counts)
 }
 
-/// Notes the place of a board that was visited as a pending one.
+/// Puts the places of the parts with these numbers, which were visited, behind the places.
 #[inline(always)]
-fn note(visited: &mut Visited, tasks: &[Task], place: usize) -> Result<(), AllocError>
-    ghost walk: { Walk }
-    requires lawful { IsPlay (play walk) }
-    requires walking { IsWalking walk visited.old (tasks.now ++ (Known place ∷ [])) }
-    ensures boards { visited.new.boards ≡ visited.old.boards }
-    ensures walking { IfOk result (λ _. IsWalking walk visited.new tasks.now) }
+fn put_places(ranks: &[usize], numbers: &[usize], places: &mut Vec<usize>) -> Result<(), AllocError>
+    requires inside { All (λ n. n < length ranks.now) numbers.now }
+    requires visited { All (λ n. 0 < get_or ranks.now n 0) numbers.now }
+    ensures { IfOk result
+        (λ _. places.new.items ≡ places.old.items ++ map (λ n. get_or ranks.now n 0 - 1) numbers.now) }
 {
-    // Read for the proof alone: these tasks are left.
-    let _ = tasks;
-    push(&mut visited.pending, place)
-}
-
-/// Moves the pending places, from the one that stands at `first` on, behind the places.
-#[inline(always)]
-fn put_places(
-    places: &mut Vec<usize>,
-    pending: &mut Vec<usize>,
-    first: usize,
-) -> Result<(), AllocError>
-    requires { first ≤ length pending.old.items }
-    ensures places { IfOk result (λ _. places.new.items ≡ places.old.items ++ drop first pending.old.items) }
-    ensures pending { IfOk result (λ _. pending.new.items ≡ take first pending.old.items) }
-{
-    places.extend_from_slice(&pending[first..])?;
-    pending.truncate(first);
+    for number in numbers {
+        push(places, ranks[*number] - 1)?;
+    }
     Ok(())
 }
 
-/// Leaves the board, which was entered: it is visited, and of the pending places its own takes the place of those that
-/// come next after it.
+/// The next part to visit after the one that was entered last, if one is left.
+#[inline(always)]
+fn next_unvisited(linked: &Linked, visited: &Visited, top: &mut Open) -> Option<usize>
+    ghost walk: { Walk }
+    requires can { CanVisit walk linked.now }
+    requires inside { IsInside linked.now.found linked.now.numbers.items top.old }
+    requires ranks { length visited.now.ranks.items ≡ length linked.now.found }
+    ensures inside { IsInside linked.now.found linked.now.numbers.items top.new }
+    ensures number { top.new.number ≡ top.old.number }
+    ensures next { IfSome result (λ n. (below : List Visit)
+        → IsVisiting walk linked.now visited.now (below ++ visits_by linked.now.found linked.now.numbers.items top.old)
+        → IsStep walk linked.now visited.now below top.old top.new n) }
+    ensures none { IfNone result ((below : List Visit)
+        → IsVisiting walk linked.now visited.now (below ++ visits_by linked.now.found linked.now.numbers.items top.old)
+        → IsVisiting walk linked.now visited.now (below ++ (Leaves (board_at linked.now.found top.old.number) ∷ []))) }
+{
+    while top.next < top.end {
+        let number = linked.numbers[top.next];
+        top.next += 1;
+        if visited.ranks[number] == 0 {
+            return Some(number);
+        }
+    }
+    None
+}
+
+/// Visits the part with the number, which was entered, after all that come next after it.
 #[inline(always)]
 fn leave(
+    alloc: Global,
+    linked: &Linked,
     visited: &mut Visited,
-    tasks: &[Task],
-    entered: Entered,
-    limit: u64,
-) -> Result<(), ReachFault>
+    number: usize,
+) -> Result<(), AllocError>
     ghost walk: { Walk }
-    requires lawful { IsPlay (play walk) }
-    requires known { AreStarts (play walk) walk.starts }
-    requires walking { IsWalking walk visited.old (tasks.now ++ (Leave entered ∷ [])) }
-    requires within { length visited.old.boards ≤ limit }
-    ensures walking { IfOk result (λ _. IsWalking walk visited.new tasks.now) }
-    ensures within { IfOk result (λ _. length visited.new.boards ≤ limit) }
-    ensures refused { result ≡ Err ReachFault.Positions → limit < length (reached walk) }
+    requires can { CanVisit walk linked.now }
+    requires number { number < length linked.now.found }
+    requires visiting { (below : List Visit)
+        × IsVisiting walk linked.now visited.old (below ++ (Leaves (board_at linked.now.found number) ∷ [])) }
+    ensures { IfOk result (λ _. (below : List Visit)
+        → IsVisiting walk linked.now visited.old (below ++ (Leaves (board_at linked.now.found number) ∷ []))
+        → IsVisiting walk linked.now visited.new below) }
 {
-    // Read for the proof alone: these tasks are left.
-    let _ = tasks;
-    let Entered {
-        board,
-        lefts,
-        first_count,
-        moves,
-        pending,
-    } = entered;
-    let place = visited.boards.put(board, limit)?;
-    let next = Adjacency {
-        lefts,
-        first_count,
-        moves,
-        first_place: visited.places.len(),
-        parts: visited.pending.len() - pending,
-    };
-    push(&mut visited.next, next)?;
-    put_places(&mut visited.places, &mut visited.pending, pending)?;
-    push(&mut visited.pending, place)?;
+    let next = linked.next[number];
+    let first_place = visited.places.len();
+    put_places(&visited.ranks, linked.numbers_of(next), &mut visited.places)?;
+    push(
+        &mut visited.next,
+        Adjacency {
+            first_place,
+            ..next
+        },
+    )?;
+    push(&mut visited.boards, linked.found.board(number).copy(alloc)?)?;
+    visited.ranks[number] = visited.boards.len();
     Ok(())
 }
 
-/// Does the task.
-fn step<R: Rules>(
+/// Visits the part with the number, if it wasn't visited, after all that come after it.
+fn visit(
     alloc: Global,
-    rules: &R,
-    edges: Edges,
+    linked: &Linked,
     visited: &mut Visited,
-    tasks: &mut Vec<Task>,
-    all: &mut Followers,
-    task: Task,
-    limit: u64,
-) -> Result<(), ReachFault>
+    entered: &mut Vec<Open>,
+    start: usize,
+) -> Result<(), AllocError>
     ghost walk: { Walk }
-    requires walk { walk ≡ walk_of (R.game rules.now) edges walk.starts }
-    requires may { MayGo (R.game rules.now) edges }
-    requires known { AreStarts (play walk) walk.starts }
-    requires uncut { AreUncut (parts walk) (reached walk) }
-    requires walking { IsWalking walk visited.old (tasks.old.items ++ (task ∷ [])) }
-    requires within { length visited.old.boards ≤ limit }
-    ensures walking { IfOk result (λ _. IsWalking walk visited.new tasks.new.items) }
-    ensures within { IfOk result (λ _. length visited.new.boards ≤ limit) }
-    ensures less { IfOk result (λ _. work_left (play walk) tasks.new.items
-        < work_left (play walk) (tasks.old.items ++ (task ∷ []))) }
-    ensures refused { result ≡ Err ReachFault.Positions → limit < length (reached walk) }
+    requires can { CanVisit walk linked.now }
+    requires start { start < length linked.now.found }
+    requires visiting { (below : List Visit)
+        × IsVisiting walk linked.now visited.old (below ++ (Enters (board_at linked.now.found start) ∷ [])) }
+    ensures { IfOk result (λ _. (below : List Visit)
+        → IsVisiting walk linked.now visited.old (below ++ (Enters (board_at linked.now.found start) ∷ []))
+        → IsVisiting walk linked.now visited.new below) }
 {
-    // Called for the proof alone: the rules are lawful.
-    rules.lawful();
-    match task {
-        Task::Known(place) => Ok(note(visited, tasks, place)?),
-        Task::Enter(board) => Ok(enter(alloc, rules, edges, visited, tasks, all, board)?),
-        Task::Leave(entered) => leave(visited, tasks, entered, limit),
+    if visited.ranks[start] != 0 {
+        return Ok(());
     }
+    entered.clear();
+    push(entered, opened(linked, start))?;
+    while let Some(last) = entered.pop() {
+        let mut last = last;
+        match next_unvisited(linked, visited, &mut last) {
+            Some(number) => {
+                push(entered, last)?;
+                push(entered, opened(linked, number))?;
+            }
+            None => leave(alloc, linked, visited, last.number)?,
+        }
+    }
+    Ok(())
+}
+
+/// Visits all parts that come after the starts, and the starts.
+fn visit_all(alloc: Global, linked: &Linked, starts: &[usize]) -> Result<Visited, AllocError>
+    ghost walk: { Walk }
+    requires can { CanVisit walk linked.now }
+    requires starts { StandAt linked.now.found starts.now walk.starts }
+    ensures { IfOk result (λ visited. IsVisiting walk linked.now visited []) }
+{
+    let mut visited = Visited {
+        boards: Vec::with_capacity(alloc, linked.found.len())?,
+        next: Vec::with_capacity(alloc, linked.found.len())?,
+        places: Vec::with_capacity(alloc, linked.numbers.len())?,
+        ranks: vec![in alloc; 0; linked.found.len()]?,
+    };
+    let mut entered = Vec::new(alloc);
+    for start in starts {
+        visit(alloc, linked, &mut visited, &mut entered, *start)?;
+    }
+    Ok(visited)
 }
 
 /// The boards that play can come to from the starts, and what comes next after each of them. `Positions` comes where
@@ -182,9 +188,7 @@ pub(crate) fn open_all<R: Rules>(
 ) -> Result<PositionGraph, ReachFault>
     ghost walk: { Walk }
     requires walk { walk ≡ walk_of (R.game rules.now) edges starts.items }
-    requires may { MayGo (R.game rules.now) edges }
-    requires starts { AreStarts (play_of (R.game rules.now) edges) starts.items }
-    requires uncut { AreUncut (parts_of (R.game rules.now) edges) starts.items }
+    requires can { CanLink (walk_of (R.game rules.now) edges starts.items) }
     ensures boards { IfOk result (λ graph. graph.boards ≡ reached walk) }
     ensures next { IfOk result (λ graph. AreNext walk.game (parts walk) graph.counts.items graph.places.items [] graph.boards
         graph.next.items) }
@@ -192,50 +196,28 @@ pub(crate) fn open_all<R: Rules>(
     ensures within { OnOk result (length (reached walk) ≤ limit) }
     ensures refused { result ≡ Err ReachFault.Positions → limit < length (reached walk) }
 {
-    // Called for the proof alone: the rules are lawful.
-    rules.lawful();
-    let mut visited = Visited {
-        boards: Found::new(alloc),
-        next: Vec::new(alloc),
-        counts: Vec::new(alloc),
-        places: Vec::new(alloc),
-        pending: Vec::new(alloc),
-    };
-    let mut all = Followers {
-        lefts: Vec::new(alloc),
-        rights: Vec::new(alloc),
-        pieces: Vec::new(alloc),
-        counts: Vec::new(alloc),
-    };
-    if let Some(start) = starts.first() {
-        search_breadth(alloc, rules, edges, start, &mut all, limit)?;
-    }
-    let mut tasks = Vec::new(alloc);
-    enter_all(alloc, &visited.boards, &starts, &mut tasks)?;
-    while let Some(task) = tasks.pop() {
-        step(
-            alloc,
-            rules,
-            edges,
-            &mut visited,
-            &mut tasks,
-            &mut all,
-            task,
-            limit,
-        )?;
-    }
+    let mut numbers = Vec::new(alloc);
+    let linked = linked_from(alloc, rules, edges, &starts, limit, &mut numbers)?;
+    let visited = visit_all(alloc, &linked, &numbers)?;
+    let mut places = Vec::new(alloc);
+    put_places(&visited.ranks, &numbers, &mut places)?;
     let Visited {
         boards,
         next,
-        counts,
-        places,
-        pending,
+        places: all,
+        ranks: _,
     } = visited;
+    let Linked {
+        found: _,
+        next: _,
+        counts,
+        numbers: _,
+    } = linked;
     Ok(PositionGraph {
-        boards: Boards::of(boards.into_boards()),
+        boards: Boards::of(boards),
         next,
         counts,
-        places,
-        starts: pending,
+        places: all,
+        starts: places,
     })
 }

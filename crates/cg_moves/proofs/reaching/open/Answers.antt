@@ -8,14 +8,12 @@ open_all-requires g c κs within = (
   within,
   (
     refl,
-    (
-      tt,
-      (
-        one_start (g.R.Rules.game c.args.rules.now) c.lawful.ensures
-            c.args.start.now c.in_ok-starts.starts.items c.requires c.in_ok-starts.ensures,
-        λ p m. refl,
-      ),
-    ),
+    record {
+      lawful = c.lawful.ensures;
+      may = tt;
+      starts = one_start (g.R.Rules.game c.args.rules.now) c.lawful.ensures
+          c.args.start.now c.in_ok-starts.starts.items c.requires c.in_ok-starts.ensures;
+    },
   ),
 )
 

@@ -1,8 +1,5 @@
 use Rattle.std.proofs.Common.{refl}
-use Rattle.cg_moves.specs.declared.edges.Edges.TheVariants.{Pieces}
-use Rattle.cg_moves.specs.Rules.{pieces}
-use Rattle.cg_moves.proofs.Members.{carry}
-use Rattle.cg_moves.proofs.PlayLemmas.{part-uncut, piece_reach-all, piece_starts}
+use Rattle.cg_moves.proofs.PlayLemmas.{piece_reach-all, piece_starts}
 use Rattle.cg_moves.proofs.Carried.{reach-along}
 use Rattle.cg_moves.proofs.reaching.open_pieces.Goals as goal
 
@@ -13,15 +10,12 @@ open_all-requires g c κs within =
       within,
       (
         refl,
-        (
-          c.requires.cuts,
-          (
-            rw c.in_ok-starts.ensures (piece_starts r lawful (lawful.cut c.requires.cuts).each
-                c.args.start.now c.requires.has),
-            λ p m. part-uncut r lawful Pieces c.requires.cuts c.args.start.now p c.requires.has
-                (carry p c.in_ok-starts.starts.items (pieces r c.args.start.now) c.in_ok-starts.ensures m),
-          ),
-        ),
+        record {
+          lawful = lawful;
+          may = c.requires.cuts;
+          starts = rw c.in_ok-starts.ensures (piece_starts r lawful (lawful.cut c.requires.cuts).each
+              c.args.start.now c.requires.has);
+        },
       ),
     )
 

@@ -1,48 +1,38 @@
-use Rattle.std.proofs.Common.{◌∷◌, [], refl, ap, arith}
-use Rattle.cg_moves.specs.Walks.{Leaves}
-use Rattle.cg_moves.proofs.FollowLemmas.{passed_on}
-use Rattle.cg_moves.proofs.Leaving.{enough, left-new, left-refused, left-walk, wider}
-use Rattle.cg_moves.proofs.Members.{in_one}
-use Rattle.cg_moves.proofs.OnWalk.{same_symbols-last}
-use Rattle.cg_moves.proofs.TaskSteps.{last-leaves, visits-wider}
+use Rattle.std.proofs.Common.{◌∙◌, ◌++◌, ◌∷◌, ◌-◌, [], ap, arith, get_or, map, refl, set, sym}
+use Rattle.cg_moves.proofs.Carried.{ok_is}
+use Rattle.cg_moves.proofs.Numbers.{at-board}
+use Rattle.cg_moves.proofs.Visits.{left, next-of, next-visited, ranks-inside, ranks-some, stand-of}
 use Rattle.cg_moves.proofs.walk.leave.Goals as goal
 
-pub put-requires-clause-same_symbols : goal.put-requires-clause-same_symbols
-put-requires-clause-same_symbols g c =
-    let (us, front, on) = last-leaves g.walk c.args.visited.now c.args.tasks.now c.args.entered c.requires.1.1.0 in
-    same_symbols-last g.walk c.requires.0 c.args.visited.now us (Leaves c.args.entered) on c.requires.1.0
-    (c.args.entered.board ∷ []) (λ q m. ap (λ z. z.symbols) (in_one q c.args.entered.board m))
-
-pub put-requires-clause-new : goal.put-requires-clause-new
-put-requires-clause-new g c =
-    let (us, front, on) = last-leaves g.walk c.args.visited.now c.args.tasks.now c.args.entered c.requires.1.1.0 in
-    left-new g.walk c.requires.0 c.args.visited.now us c.args.entered on
-
-pub returns-in_err-place-clause-refused : goal.returns-in_err-place-clause-refused
-returns-in_err-place-clause-refused g c f =
-    let (us, front, on) = last-leaves g.walk c.args.visited.now c.args.tasks.now c.args.entered c.requires.1.1.0 in
-    left-refused g.walk c.requires.0 c.args.visited.now us c.args.entered on _ refl c.args.limit
-    (c.in_err-place.ensures.refused (passed_on c.in_err-place.field-0.0 c.from_residual.result c.from_residual.ensures.1 f))
-
-pub overflow_sub-next : goal.overflow_sub-next
-overflow_sub-next g c =
-    let (us, front, on) = last-leaves g.walk c.args.visited.now c.args.tasks.now c.args.entered c.requires.1.1.0 in
-    let l = enough g.walk c.requires.0 c.args.visited.now us c.args.entered on in
-    omega arith
+pub numbers_of-requires : goal.numbers_of-requires
+numbers_of-requires g c =
+    (next-of g.walk c.args.linked.now c.requires.0 c.args.number c.requires.1.0 c.index-next.result.now c.index-next.ensures).inside
 
 pub put_places-requires : goal.put_places-requires
 put_places-requires g c =
-    let (us, front, on) = last-leaves g.walk c.args.visited.now c.args.tasks.now c.args.entered c.requires.1.1.0 in
-    enough g.walk c.requires.0 c.args.visited.now us c.args.entered on
+    let s = c.args.linked.now in
+    let v = c.args.visited.now in
+    let (below, x) = c.requires.1.1 in
+    let stand = stand-of g.walk s c.requires.0 c.args.number c.requires.1.0 c.index-next.result.now c.index-next.ensures in
+    let all = next-visited g.walk s c.requires.0 v.boards.items v.next.items v.places.items v.ranks.items below c.args.number
+    c.requires.1.0 x in
+    record {
+      inside = rw (c.deref.ensures.value, c.numbers_of.ensures)
+          (ranks-inside s.found v.boards.items v.ranks.items x.ranked _ _ stand);
+      visited = rw (c.deref.ensures.value, c.numbers_of.ensures)
+          (ranks-some s.found v.boards.items v.ranks.items x.ranked _ _ stand all);
+    }
 
-pub returns-clause-walking : goal.returns-clause-walking
-returns-clause-walking g c =
-    let s = c.args.visited.now in
-    let (us, front, on) = last-leaves g.walk s c.args.tasks.now c.args.entered c.requires.1.1.0 in (
-      us,
-      visits-wider s.boards c.put.new.self (wider g.walk c.requires.0 s us c.args.entered on c.put.new.self
-          c.in_ok-place.ensures.boards) c.args.tasks.now us front,
-      left-walk g.walk c.requires.0 s us c.args.entered on c.put.new.self c.in_ok-place.ensures.boards
-          c.in_ok-place.ensures.number c.in_ok-put_places.ensures.pending c.in_ok-push-2.ensures
-          c.in_ok-put_places.ensures.places (omega arith) (omega arith) c.in_ok-push.ensures,
-    )
+pub returns : goal.returns
+returns g c below x =
+    let s = c.args.linked.now in
+    let v = c.args.visited.now in
+    let n = c.args.number in
+    let same = ok_is c.in_ok-copy.field-0 c.board.result.now c.in_ok-copy.ensures
+    ∙ sym (at-board s.found n c.board.result.now c.board.ensures) in
+    left g.walk s c.requires.0 v.boards.items v.next.items v.places.items v.ranks.items below n c.requires.1.0 x
+    c.index-next.result.now c.index-next.ensures c.push-2.new.items.items c.push.new.items.items c.put_places.new.places.items
+    (set v.ranks.items n c.len.result) c.numbers_of.result.now c.len-first_place.result c.len.result
+    (c.in_ok-push-2.ensures ∙ ap (λ z. v.boards.items ++ (z ∷ [])) same) (omega arith) c.numbers_of.ensures
+    (c.in_ok-put_places.ensures ∙ ap (λ z. v.places.items ++ map (λ m. get_or z m 0 - 1) c.numbers_of.result.now) c.deref.ensures.value)
+    c.in_ok-push.ensures (omega arith) refl

@@ -1,5 +1,4 @@
 use Rattle.std.proofs.Common.{[], ◌∷◌, ◌++◌, ap, ◌∙◌, arith}
-use Rattle.cg_moves.specs.Keys.{key_number}
 use Rattle.cg_moves.proofs.FoundKeys.{grids-more, numbers-more}
 use Rattle.cg_moves.proofs.found.Found.put.Goals as goal
 
@@ -11,7 +10,7 @@ invariant_of-self-2 c =
     let boards = c.self.inside.boards.items in
     let items = c.in_ok-push.ensures.items ∙ ap (λ z. z ++ (c.args.board ∷ [])) c.in_ok-reserve.ensures.items in
     rw items (
-      numbers-more c.self.inside.by_number c.add.new.self boards c.args.board c.number.result c.self.invariant.0
-          (c.number.ensures ∙ ap key_number c.key.ensures.value) c.in_ok-add.ensures.more,
-      grids-more boards c.args.board c.self.invariant.1 c.key.ensures.grid,
+      numbers-more c.self.inside.by_number c.add.new.self boards c.args.board c.args.key_hash c.self.invariant.0
+          c.requires.hash c.in_ok-add.ensures.more,
+      grids-more boards c.args.board c.self.invariant.1 c.requires.grid,
     )

@@ -1,0 +1,108 @@
+use Rattle.std.proofs.Common.{◌≡◌, ◌∙◌, ◌-◌, ap, arith, length}
+use Rattle.std.specs.List.{flat_map}
+use Rattle.cg_moves.specs.declared.graph.Adjacency.{Adjacency}
+use Rattle.cg_moves.specs.declared.player.Player.TheVariants.{Left, Right}
+use Rattle.cg_moves.specs.Linked.{IsWider}
+use Rattle.cg_moves.specs.Plays.{parts_of}
+use Rattle.cg_moves.specs.Rules.{boards_after}
+use Rattle.cg_moves.specs.Walking.{walk_of}
+use Rattle.cg_moves.proofs.Bounds.{after-has}
+use Rattle.cg_moves.proofs.Broad.{among-same_symbols, found-kept}
+use Rattle.cg_moves.proofs.Carried.{ok_any, ok_is}
+use Rattle.cg_moves.proofs.Links.{lefts-among, link-has, link-lawful, linking-done, number-at, rights-among, wider-twice}
+use Rattle.cg_moves.proofs.linking.link.Goals as goal
+
+pub link_player-requires : goal.link_player-requires
+link_player-requires g c =
+    let w = walk_of (g.R.Rules.game c.args.rules.now) c.args.edges g.starts in
+    let s = c.args.linked.now in
+    let x = c.requires.1.1.0 in
+    let p = c.in_ok-board.board in
+    let n : c.len.result ≡ length s.next.items = omega arith in
+    let at = number-at s.found s.next.items c.len.result p c.board.result.now n (ok_is p c.board.result.now c.in_ok-board.ensures)
+    c.board.ensures in
+    record {
+      has = link-has w c.requires.1.0 s.found s.next.items s.counts.items s.numbers.items x p at;
+      after = λ q m. after-has (g.R.Rules.game c.args.rules.now) c.requires.1.0.lawful.moves Left p q
+          (link-has w c.requires.1.0 s.found s.next.items s.counts.items s.numbers.items x p at) m;
+      may = c.requires.1.0.may;
+      same_symbols = among-same_symbols w s.found x.among (link-lawful w c.requires.1.0 s.found s.next.items s.counts.items
+          s.numbers.items x p at) c.requires.1.0.starts _
+          (lefts-among w c.requires.1.0 s.found s.next.items s.counts.items s.numbers.items x p at);
+    }
+
+pub link_player-requires-2-clause-has : goal.link_player-requires-2-clause-has
+link_player-requires-2-clause-has g c =
+    let w = walk_of (g.R.Rules.game c.args.rules.now) c.args.edges g.starts in
+    let s = c.args.linked.now in
+    let x = c.requires.1.1.0 in
+    let p = c.in_ok-board.board in
+    let n : c.len.result ≡ length s.next.items = omega arith in
+    let at = number-at s.found s.next.items c.len.result p c.board.result.now n (ok_is p c.board.result.now c.in_ok-board.ensures)
+    c.board.ensures in
+    link-has w c.requires.1.0 s.found s.next.items s.counts.items s.numbers.items x p at
+
+pub link_player-requires-2-clause-after : goal.link_player-requires-2-clause-after
+link_player-requires-2-clause-after g c q m =
+    let w = walk_of (g.R.Rules.game c.args.rules.now) c.args.edges g.starts in
+    let s = c.args.linked.now in
+    let x = c.requires.1.1.0 in
+    let p = c.in_ok-board.board in
+    let n : c.len.result ≡ length s.next.items = omega arith in
+    let at = number-at s.found s.next.items c.len.result p c.board.result.now n (ok_is p c.board.result.now c.in_ok-board.ensures)
+    c.board.ensures in
+    after-has (g.R.Rules.game c.args.rules.now) c.requires.1.0.lawful.moves Right p q
+    (link-has w c.requires.1.0 s.found s.next.items s.counts.items s.numbers.items x p at) m
+
+pub link_player-requires-2-clause-same_symbols : goal.link_player-requires-2-clause-same_symbols
+link_player-requires-2-clause-same_symbols g c =
+    let w = walk_of (g.R.Rules.game c.args.rules.now) c.args.edges g.starts in
+    let s = c.args.linked.now in
+    let x = c.requires.1.1.0 in
+    let p = c.in_ok-board.board in
+    let n : c.len.result ≡ length s.next.items = omega arith in
+    let at = number-at s.found s.next.items c.len.result p c.board.result.now n (ok_is p c.board.result.now c.in_ok-board.ensures)
+    c.board.ensures in
+    let mid = c.link_player.new.linked.found in
+    among-same_symbols w mid (found-kept w s.found x.among _ mid c.in_ok-link_player.ensures.found
+    (lefts-among w c.requires.1.0 s.found s.next.items s.counts.items s.numbers.items x p at))
+    (link-lawful w c.requires.1.0 s.found s.next.items s.counts.items s.numbers.items x p at) c.requires.1.0.starts _
+    (rights-among w c.requires.1.0 s.found s.next.items s.counts.items s.numbers.items x p at)
+
+pub returns-clause-linking : goal.returns-clause-linking
+returns-clause-linking g c =
+    let w = walk_of (g.R.Rules.game c.args.rules.now) c.args.edges g.starts in
+    let s = c.args.linked.now in
+    let x = c.requires.1.1.0 in
+    let p = c.in_ok-board.board in
+    let n : c.len.result ≡ length s.next.items = omega arith in
+    let at = number-at s.found s.next.items c.len.result p c.board.result.now n (ok_is p c.board.result.now c.in_ok-board.ensures)
+    c.board.ensures in
+    let one = c.in_ok-link_player.ensures in
+    let two = c.in_ok-link_player-2.ensures in
+    let mid = c.link_player.new.linked in
+    let end = c.link_player-2.new.linked in
+    let a : c.len-first_count.result ≡ length s.counts.items = omega arith in
+    let b : c.len-first_place.result ≡ length s.numbers.items = omega arith in
+    let d : c.len-first_right.result ≡ length mid.counts.items = omega arith in
+    let e : c.len-end_count.result ≡ length end.counts.items = omega arith in
+    let f : c.len-end_place.result ≡ length end.numbers.items = omega arith in
+    let next : Adjacency = record {
+      lefts = c.len-first_right.result - c.len-first_count.result;
+      first_count = c.len-first_count.result;
+      moves = c.len-end_count.result - c.len-first_count.result;
+      first_place = c.len-first_place.result;
+      parts = c.len-end_place.result - c.len-first_place.result;
+    } in
+    linking-done w c.requires.1.0 s.found s.next.items s.counts.items s.numbers.items x p at mid.found end.found mid.numbers.items
+    end.numbers.items mid.counts.items end.counts.items next one.found two.found one.numbers two.numbers one.counts two.counts
+    (omega (arith, a, d)) a (omega (arith, a, e)) b (omega (arith, b, f)) c.push.new.items.items end.next.items c.push.result
+    (ap (λ z. z.items) (two.next ∙ one.next)) c.push.ensures
+
+pub returns-clause-wider : goal.returns-clause-wider
+returns-clause-wider g c =
+    ok_any (IsWider c.args.linked.now.found c.link_player-2.new.linked.found) c.push.result
+    (wider-twice c.args.linked.now.found c.link_player.new.linked.found c.link_player-2.new.linked.found
+    (flat_map (parts_of (g.R.Rules.game c.args.rules.now) c.args.edges) (boards_after (g.R.Rules.game c.args.rules.now) Left c.in_ok-board.board))
+    (flat_map (parts_of (g.R.Rules.game c.args.rules.now) c.args.edges) (boards_after (g.R.Rules.game c.args.rules.now) Right c.in_ok-board.board))
+    c.in_ok-link_player.ensures.found c.in_ok-link_player-2.ensures.found)

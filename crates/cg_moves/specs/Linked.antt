@@ -1,0 +1,40 @@
+-- Parts by numbers: a part's number is its place among those that were found.
+use Rattle.std.specs.Prelude.{◌≡◌, ℕ, ◌<◌, All, List, [], ◌∷◌, ◌++◌, length}
+use Rattle.cg_moves.specs.declared.graph.Adjacency.{Adjacency}
+use Rattle.cg_moves.specs.declared.linking.Linked.{Linked}
+use Rattle.cg_moves.specs.Grid.{Grid}
+use Rattle.cg_moves.specs.Graph.{IsAt, IsNext, StandAt}
+use Rattle.cg_moves.specs.Lawful.{IsLawful}
+use Rattle.cg_moves.specs.Plays.{MayGo}
+use Rattle.cg_moves.specs.Rules.{GameRules}
+use Rattle.cg_moves.specs.Walking.{AreFound, Walk, parts, play}
+use Rattle.cg_moves.specs.Walks.{AreStarts}
+
+-- what has a number keeps it
+abbrev pub IsWider : List Grid → List Grid → Type 0
+IsWider found wider = (n : ℕ) (p : Grid) → IsAt found n p → IsAt wider n p
+
+-- the numbers of these boards were put behind others
+abbrev pub NumberedAs : List Grid → List ℕ → List ℕ → List Grid → Type 0
+NumberedAs found before after ps = (more : List ℕ) × (after ≡ before ++ more) × StandAt found more ps
+
+-- the first of the boards have what comes next after them listed, by numbers
+abbrev pub AreLinked : GameRules → (Grid → List Grid) → List ℕ → List ℕ → List Grid → List Grid → List Adjacency → Type 0
+AreLinked r cut counts numbers found ps [] = Unit {0}
+AreLinked r cut counts numbers found [] (n ∷ ns) = ⊥
+AreLinked r cut counts numbers found (p ∷ ps) (n ∷ ns) = IsNext r cut counts numbers found p n × AreLinked r cut counts numbers found ps ns
+
+-- parts that were found among those that come after the starts, and what comes next after the first of them
+pub record IsLinked (w : Walk) (found : List Grid) (nexts : List Adjacency) (counts numbers : List ℕ) : Type 0 where
+  pub among : AreFound w found
+  pub linked : AreLinked w.game (parts w) counts numbers found found nexts
+  pub inside : All (λ n. n < length found) numbers
+
+abbrev pub IsLinking : Walk → Linked → Type 0
+IsLinking w s = IsLinked w s.found s.next.items s.counts.items s.numbers.items
+
+-- the rules of a walk are lawful, and the boards that it begins with are boards of the game with the same symbols
+pub record CanLink (w : Walk) : Type 0 where
+  pub lawful : IsLawful w.game
+  pub may : MayGo w.game w.edges
+  pub starts : AreStarts (play w) w.starts
