@@ -97,12 +97,6 @@ pub form_as : {R : Type 0} (w x : State Meant (WorkRest R)) (fs hs : List Game) 
 form_as w x fs hs least item form r q e given =
     rw e given
 
--- with less to spare
-pub form_least : {R : Type 0} (w x : State Meant (WorkRest R)) (fs hs : List Game) (least more : ℕ) (item : Item) (form : Game)
-    (r : Result ℕ ValueFault) → least ≤ more → FormMade w x fs hs more item form r → FormMade w x fs hs least item form r
-form_least w x fs hs least more item form r l given =
-    record { at = given.at; begins = given.begins; made = given.made; spare = (let m = given.spare in omega (arith, l, m)) }
-
 -- ---- the note on a cell, later
 
 some_thing : (o : Option Meant) → IsSome o → (x : Meant) × (o ≡ Some x)

@@ -1,7 +1,6 @@
 pub mod Sums
 pub mod WrittenOptions
 pub mod Tables
-pub mod Makings
 pub mod Loops
 pub mod Incomparable
 pub mod Options

@@ -1,11 +1,13 @@
 -- The own list of a sum, whole or too long, and the sum at its end.
 use Rattle.std.proofs.Common.{◌≡◌, ◌⊎◌, inl, inr, ℕ, zero, suc, ◌+◌, ◌-◌, ◌*◌, ◌≤◌, ◌<◌, arith, ap, sym}
 use Rattle.std.proofs.Common.{◌∙◌, subst, List, [], ◌∷◌, ◌++◌, get_or, length, false, Result, Err}
+use Rattle.std.specs.Result.{IsErrAnd}
 use Rattle.std.specs.Prelude.{IfErr, nat_lt, if◌then◌else◌}
 use Rattle.std.proofs.lemmas.Bool.Decides.{nat_tests}
 use Rattle.std.proofs.Math.Nat.{mul-le-mul, mul-le-mul_left, suc-mul}
 use Rattle.std.proofs.lemmas.Grind.{get_or_default_zero}
 use Rattle.std.proofs.lemmas.List.{get_or_push, length_push}
+use Rattle.std.proofs.lemmas.Result.{err_from_is_err_and}
 use Rattle.cg_arena.specs.Arena.{game_of}
 use Rattle.cg_canon.specs.Arena.{IsAt}
 use Rattle.cg_form.proofs.AllPositions.{among-positions_of, positions-own, positions_of-last}
@@ -29,7 +31,7 @@ use Rattle.cg_canon.specs.Made.{Gives, ItemsMade}
 use Rattle.cg_canon.specs.Works.{Keeps}
 use Rattle.cg_sum.specs.Lists.{minus_items, negative_items}
 use Rattle.cg_sum.specs.Progress.{HoldsForms, negative_at_place, sum_at_place}
-use Rattle.cg_canon.proofs.MadeSteps.{made_as, read_then, was_refused}
+use Rattle.cg_canon.proofs.MadeSteps.{made_as, read_then}
 use Rattle.cg_dyadic.proofs.Truth.{less-nat_lt}
 use Rattle.cg_sum.proofs.Tables.{at_place, sum_placed}
 
@@ -59,13 +61,6 @@ pub err_refused : {T : Type 0} (q : Result T ValueFault) (fault : ValueFault) (s
 err_refused q fault share spent after items e r =
     rw e r
 
--- a refusal of the own list, before anything of it was made
-pub refused_items : {R T : Type 0} (w v : State Meant (WorkRest R)) (items : List Item) (q : Result T ValueFault)
-    (fault : ValueFault) → q ≡ Err fault → WasRefused fault w.rest.share w.rest.spent items v.rest.spent → Keeps w v
-    → ItemsMade w v items q
-refused_items w v items q fault e r k =
-    rw e (record { charged = tt; refused = r; keeps = k })
-
 pub gives_refused : {R : Type 0} (w v : State Meant (WorkRest R)) (items : List Item) (g : Game) (q : Result ℕ ValueFault)
     (fault : ValueFault) → q ≡ Err fault → ItemsMade w v items q → w.spare ≤ v.spare → Gives w v items g q
 gives_refused w v items g q fault e m more =
@@ -75,11 +70,17 @@ pub gives_as : {R : Type 0} (w v : State Meant (WorkRest R)) (items : List Item)
     → Gives w v items g r → Gives w v items g q
 gives_as w v items g r q e given = rw e given
 
--- the same refusal of the same items, as another result
-pub same_refusal : {R T U : Type 0} (w v : State Meant (WorkRest R)) (items : List Item) (r : Result T ValueFault)
-    (q : Result U ValueFault) (fault : ValueFault) → r ≡ Err fault → q ≡ Err fault → ItemsMade w v items r
-    → ItemsMade w v items q
-same_refusal w v items r q fault e d m = refused_items w v items q fault d (was_refused w v items r fault e m) m.keeps
+-- a refusal, as `?` hands it on
+pub gives_handed : {R : Type 0} {w v : State Meant (WorkRest R)} {items : List Item} {g : Game} {q : Result ℕ ValueFault} (f : ValueFault)
+    → IsErrAnd q (λ e. e ≡ f) → WasRefused f w.rest.share w.rest.spent items v.rest.spent → Keeps w v → w.spare ≤ v.spare → Gives w v items g q
+gives_handed {q = q} f a r k l =
+    let p = err_from_is_err_and q a in
+    rw (p.1 ∙ ap Err p.2) (record { game = tt; made = record { charged = tt; refused = r; keeps = k }; more = l })
+
+pub made_handed : {R T U : Type 0} {w v : State Meant (WorkRest R)} {items : List Item} {q : Result U ValueFault} {f : ValueFault}
+    → ItemsMade {T = T} w v items (Err f) → IsErrAnd q (λ e. e ≡ f) → ItemsMade w v items q
+made_handed {q = q} m a =
+    let p = err_from_is_err_and q a in rw (p.1 ∙ ap Err p.2) (record { charged = tt; refused = m.refused; keeps = m.keeps })
 
 -- ---- positions
 

@@ -31,7 +31,7 @@ pub fn multiple<B: BoardForms, S: CellStore<GameFacts<B>>>(
         (multiple_items work.old.limit count (game_at W a)) (can (times count (game_at W a))) result }
 {
     if count == 0 {
-        return number_item(work, Some(zero()), 0);
+        return number_item(alloc, work, Some(zero()), 0);
     }
     // Called for the proof alone: the form that a handle stands for is canonical.
     known_game(work, a);

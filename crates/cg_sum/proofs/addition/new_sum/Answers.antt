@@ -1,17 +1,15 @@
 -- A sum that is made item by item, and kept.
-use Rattle.std.proofs.Common.{ap, sym, ◌∙◌, Err}
-use Rattle.std.proofs.lemmas.Result.{err_from_is_err_and}
+use Rattle.std.proofs.Common.{sym}
 use Rattle.cg_nodes.proofs.Later.{is_game_later}
 use Rattle.cg_canon.specs.Works.{work_state}
-use Rattle.cg_canon.proofs.MadeSteps.{made_memory, passed}
+use Rattle.cg_canon.proofs.MadeSteps.{passed}
 use Rattle.cg_sum.proofs.AgainSums.{kept_items}
-use Rattle.cg_sum.proofs.SumEnds.{gives_as, gives_refused}
+use Rattle.cg_sum.proofs.SumEnds.{gives_as, gives_handed}
 use Rattle.cg_sum.proofs.addition.new_sum.Goals as goal
 
 pub returns-in_err-sum : goal.returns-in_err-sum
 returns-in_err-sum g c =
-    let p = err_from_is_err_and c.from_residual.result c.from_residual.ensures.1 in
-    gives_as _ _ _ _ _ _ (p.1 ∙ ap Err p.2 ∙ sym c.in_err-sum.was) c.found_sum.ensures
+    let given = c.in_err-sum.ensures in gives_handed _ c.from_residual.ensures.1 given.made.refused given.made.keeps given.more
 
 pub keep_sum-requires-clause-items : goal.keep_sum-requires-clause-items
 keep_sum-requires-clause-items g c =
@@ -30,8 +28,7 @@ keep_sum-requires-clause-b g c =
 pub returns-in_err-keep_sum : goal.returns-in_err-keep_sum
 returns-in_err-keep_sum g c =
     let given = c.found_sum.ensures in
-    let p = err_from_is_err_and c.from_residual-in_err-keep_sum.result c.from_residual-in_err-keep_sum.ensures.1 in
-    rw c.keep_sum.ensures (gives_refused _ _ _ _ _ _ (p.1 ∙ ap Err p.2) (made_memory _ _ _ _ (p.1 ∙ ap Err p.2) given.made.keeps) given.more)
+    rw c.keep_sum.ensures (gives_handed _ c.from_residual-in_err-keep_sum.ensures.1 tt given.made.keeps given.more)
 
 pub returns : goal.returns
 returns g c = rw c.keep_sum.ensures (gives_as _ _ _ _ _ _ (sym c.in_ok-sum.was) c.found_sum.ensures)

@@ -1,27 +1,22 @@
 -- The sums of all pairs of positions, of which the last is the sum itself.
-use Rattle.std.proofs.Common.{arith, refl, sym, ◌∙◌, ap, Err, Ok}
-use Rattle.std.proofs.lemmas.Result.{err_from_is_err_and}
+use Rattle.std.proofs.Common.{arith, refl, sym, Ok}
 use Rattle.cg_canon.specs.Works.{work_state}
 use Rattle.cg_canon.proofs.Keeping.{spends_keeps}
-use Rattle.cg_canon.proofs.MadeSteps.{made_memory, made_with}
+use Rattle.cg_canon.proofs.MadeSteps.{made_with}
 use Rattle.cg_sum.specs.Progress.{sum_at_place}
-use Rattle.cg_sum.proofs.SumEnds.{gives_refused, last_at, last_sum, refused_items, same_refusal, some_sum, stands_as, sum_made}
+use Rattle.cg_sum.proofs.SumEnds.{gives_handed, last_at, last_sum, some_sum, stands_as, sum_made}
 use Rattle.cg_canon.proofs.WalkPositions.{walk_as}
 use Rattle.cg_sum.proofs.addition.other_sum.Goals as goal
 
 pub returns-in_err-terms : goal.returns-in_err-terms
 returns-in_err-terms g c =
-    let p = err_from_is_err_and c.from_residual.result c.from_residual.ensures.1 in
     let wv = c.read_terms.ensures.spends in
-    gives_refused _ _ _ _ _ _ (p.1 ∙ ap Err p.2)
-    (refused_items _ _ _ _ _ (p.1 ∙ ap Err p.2) c.in_err-terms.ensures.refused (spends_keeps 0 _ _ wv)) (omega (arith, wv.spare))
+    gives_handed _ c.from_residual.ensures.1 c.in_err-terms.ensures.refused (spends_keeps 0 _ _ wv) (omega (arith, wv.spare))
 
 pub returns-in_err-table : goal.returns-in_err-table
 returns-in_err-table g c =
-    let p = err_from_is_err_and c.from_residual-in_err-table.result c.from_residual-in_err-table.ensures.1 in
     let wv = c.read_terms.ensures.spends in
-    gives_refused _ _ _ _ _ _ (p.1 ∙ ap Err p.2) (made_memory _ _ _ _ (p.1 ∙ ap Err p.2) (spends_keeps 0 _ _ wv))
-    (omega (arith, wv.spare))
+    gives_handed _ c.from_residual-in_err-table.ensures.1 tt (spends_keeps 0 _ _ wv) (omega (arith, wv.spare))
 
 pub add_rows-requires : goal.add_rows-requires
 add_rows-requires g c κs within =
@@ -48,15 +43,12 @@ add_rows-requires g c κs within =
 pub returns-in_err-add_rows : goal.returns-in_err-add_rows
 returns-in_err-add_rows g c =
     let W = work_state g.S.CellStore.state in
-    let w = W c.args.work.now in
-    let v = W c.read_terms.new.work in
-    let x = W c.add_rows.new.work in
     let wv = c.read_terms.ensures.spends in
     let terms = c.in_ok-terms.ensures in
-    let p = err_from_is_err_and c.from_residual-in_err-add_rows.result c.from_residual-in_err-add_rows.ensures.1 in
-    gives_refused w x _ _ _ _ (p.1 ∙ ap Err p.2) (same_refusal w x _ c.add_rows.result _ _ c.in_err-add_rows.was (p.1 ∙ ap Err p.2)
-    (sum_made w v x _ _ _ wv terms.firsts.at.1 terms.seconds.at.1 _ terms.within c.add_rows.ensures.made))
-    (omega (arith, wv.spare, terms.start, c.add_rows.ensures.spare))
+    let all = c.in_err-add_rows.ensures in
+    let m = sum_made (W c.args.work.now) (W c.read_terms.new.work) (W c.add_rows.new.work) _ _ _ wv terms.firsts.at.1 terms.seconds.at.1 _
+    terms.within all.made in
+    gives_handed _ c.from_residual-in_err-add_rows.ensures.1 m.refused m.keeps (omega (arith, wv.spare, terms.start, all.spare))
 
 pub overflow_sub-len : goal.overflow_sub-len
 overflow_sub-len g c =

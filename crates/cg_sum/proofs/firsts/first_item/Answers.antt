@@ -1,11 +1,10 @@
 -- A nimber that is known is charged.
-use Rattle.std.proofs.Common.{◌<◌, ◌∙◌, ap, arith, refl, length, Err, Ok}
-use Rattle.std.proofs.lemmas.Result.{err_from_is_err_and}
+use Rattle.std.proofs.Common.{◌<◌, arith, refl, length, Ok}
 use Rattle.cg_canon.proofs.MadeSteps.{made_with}
 use Rattle.cg_canon.specs.Works.{work_state}
 use Rattle.cg_nodes.proofs.Later.{stands_game, stands_is_game}
 use Rattle.cg_sum.proofs.FirstSteps.{first_later, first_stands, nimber_made}
-use Rattle.cg_sum.proofs.SumEnds.{same_refusal}
+use Rattle.cg_sum.proofs.SumEnds.{made_handed}
 use Rattle.cg_sum.proofs.firsts.first_item.Goals as goal
 
 pub item_of-requires-clause-game : goal.item_of-requires-clause-game
@@ -20,9 +19,8 @@ returns-in_err-item_of-clause-made g c =
     let w = work_state g.S.CellStore.state c.args.work.now in
     let within : c.args.n < length c.args.handles.now.items =
     (let l = c.if-n-len.true in let e = c.len.ensures in omega arith) in
-    let p = err_from_is_err_and c.from_residual.result c.from_residual.ensures.1 in
-    same_refusal _ _ _ c.item_of.result _ _ c.in_err-item_of.was (p.1 ∙ ap Err p.2) (nimber_made _ _ _ _ c.item_of.result
-    (stands_game w _ _ (first_stands w _ _ _ c.requires.first within c.index.ensures)) c.item_of.ensures.given.gives.made)
+    made_handed (nimber_made _ _ _ _ _ (stands_game w _ _ (first_stands w _ _ _ c.requires.first within c.index.ensures))
+    c.in_err-item_of.ensures.given.gives.made) c.from_residual.ensures.1
 
 pub returns-in_ok-item_of-clause-first : goal.returns-in_ok-item_of-clause-first
 returns-in_ok-item_of-clause-first g c =

@@ -1,12 +1,11 @@
 -- The next nimber is made of those that are known.
-use Rattle.std.proofs.Common.{ap, ◌∙◌, refl, subst, Err, Ok}
-use Rattle.std.proofs.lemmas.Result.{err_from_is_err_and}
+use Rattle.std.proofs.Common.{refl, subst, Ok}
 use Rattle.cg_canon.proofs.MadeSteps.{made_with}
 use Rattle.cg_canon.specs.Works.{work_state}
 use Rattle.cg_form.specs.Game.{Game}
 use Rattle.cg_nodes.specs.Games.{StandsFor}
 use Rattle.cg_sum.proofs.FirstSteps.{first_later, first_more, next_canonical, next_games, nimber_made}
-use Rattle.cg_sum.proofs.SumEnds.{same_refusal}
+use Rattle.cg_sum.proofs.SumEnds.{made_handed}
 use Rattle.cg_sum.proofs.firsts.next_item.Goals as goal
 
 pub canonical_item-requires-clause-canonical : goal.canonical_item-requires-clause-canonical
@@ -16,11 +15,8 @@ canonical_item-requires-clause-canonical g c =
 
 pub returns-in_err-next-clause-made : goal.returns-in_err-next-clause-made
 returns-in_err-next-clause-made g c =
-    let p = err_from_is_err_and c.from_residual.result c.from_residual.ensures.1 in
-    same_refusal _ _ _ c.canonical_item.result _ _ c.in_err-next.was (p.1 ∙ ap Err p.2)
-    (nimber_made _ _ _ _ c.canonical_item.result
-    (next_games (work_state g.S.CellStore.state c.args.work.now) c.args.handles.now.items _ _ c.requires.some
-    c.requires.first c.as_slice.ensures.value c.as_slice-2.ensures.value) c.canonical_item.ensures.gives.made)
+    made_handed (nimber_made _ _ _ _ _ (next_games (work_state g.S.CellStore.state c.args.work.now) c.args.handles.now.items _ _ c.requires.some
+    c.requires.first c.as_slice.ensures.value c.as_slice-2.ensures.value) c.in_err-next.ensures.gives.made) c.from_residual.ensures.1
 
 pub returns-clause-first : goal.returns-clause-first
 returns-clause-first g c =

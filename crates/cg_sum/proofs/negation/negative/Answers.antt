@@ -1,29 +1,24 @@
 -- The negatives of all positions, of which the last is the negative itself.
-use Rattle.std.proofs.Common.{arith, refl, sym, ◌∙◌, ap, Err, Ok}
-use Rattle.std.proofs.lemmas.Result.{err_from_is_err_and}
+use Rattle.std.proofs.Common.{arith, refl, sym, Ok}
 use Rattle.cg_canon.specs.Works.{work_state}
 use Rattle.cg_canon.proofs.Keeping.{spends_keeps}
-use Rattle.cg_canon.proofs.MadeSteps.{made_memory, made_with}
+use Rattle.cg_canon.proofs.MadeSteps.{made_with}
 use Rattle.cg_sum.specs.Progress.{negative_at_place}
-use Rattle.cg_sum.proofs.SumEnds.{gives_refused, last_at, last_negative, limit_refused, negative_made}
-use Rattle.cg_sum.proofs.SumEnds.{refused_items, same_refusal, same_spent, some_negative, stands_as}
+use Rattle.cg_sum.proofs.SumEnds.{gives_handed, last_at, last_negative, limit_refused, negative_made}
+use Rattle.cg_sum.proofs.SumEnds.{same_spent, some_negative, stands_as}
 use Rattle.cg_canon.proofs.WalkPositions.{walk_as}
 use Rattle.cg_sum.proofs.negation.negative.Goals as goal
 
 pub returns-in_err-walk : goal.returns-in_err-walk
 returns-in_err-walk g c =
-    let p = err_from_is_err_and c.from_residual.result c.from_residual.ensures.1 in
     let wv = c.walked.ensures.spends in
-    gives_refused _ _ _ _ _ _ (p.1 ∙ ap Err p.2) (refused_items _ _ _ _ _ (p.1 ∙ ap Err p.2)
-    (limit_refused _ _ _ _ _ _ _ (same_spent _ _ 0 wv) c.in_err-walk.ensures.refused) (spends_keeps 0 _ _ wv))
-    (omega (arith, wv.spare))
+    gives_handed _ c.from_residual.ensures.1 (limit_refused _ _ _ _ _ _ _ (same_spent _ _ 0 wv) c.in_err-walk.ensures.refused)
+    (spends_keeps 0 _ _ wv) (omega (arith, wv.spare))
 
 pub returns-in_err-table : goal.returns-in_err-table
 returns-in_err-table g c =
-    let p = err_from_is_err_and c.from_residual-in_err-table.result c.from_residual-in_err-table.ensures.1 in
     let wv = c.walked.ensures.spends in
-    gives_refused _ _ _ _ _ _ (p.1 ∙ ap Err p.2) (made_memory _ _ _ _ (p.1 ∙ ap Err p.2) (spends_keeps 0 _ _ wv))
-    (omega (arith, wv.spare))
+    gives_handed _ c.from_residual-in_err-table.ensures.1 tt (spends_keeps 0 _ _ wv) (omega (arith, wv.spare))
 
 pub add_negatives-requires : goal.add_negatives-requires
 add_negatives-requires g c κs within =
@@ -44,15 +39,11 @@ add_negatives-requires g c κs within =
 pub returns-in_err-add_negatives : goal.returns-in_err-add_negatives
 returns-in_err-add_negatives g c =
     let W = work_state g.S.CellStore.state in
-    let w = W c.args.work.now in
-    let v = W c.walked.new.work in
-    let x = W c.add_negatives.new.work in
     let wv = c.walked.ensures.spends in
     let walk = c.in_ok-walk.ensures in
-    let p = err_from_is_err_and c.from_residual-in_err-add_negatives.result c.from_residual-in_err-add_negatives.ensures.1 in
-    gives_refused w x _ _ _ _ (p.1 ∙ ap Err p.2) (same_refusal w x _ c.add_negatives.result _ _ c.in_err-add_negatives.was
-    (p.1 ∙ ap Err p.2) (negative_made w v x _ _ wv walk.walk.at.1 _ walk.within c.add_negatives.ensures.made))
-    (omega (arith, wv.spare, c.add_negatives.ensures.spare))
+    let all = c.in_err-add_negatives.ensures in
+    let m = negative_made (W c.args.work.now) (W c.walked.new.work) (W c.add_negatives.new.work) _ _ wv walk.walk.at.1 _ walk.within all.made in
+    gives_handed _ c.from_residual-in_err-add_negatives.ensures.1 m.refused m.keeps (omega (arith, wv.spare, all.spare))
 
 pub overflow_sub-len : goal.overflow_sub-len
 overflow_sub-len g c =

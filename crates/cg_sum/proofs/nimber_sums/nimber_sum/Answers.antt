@@ -1,10 +1,9 @@
 -- The items of the sums of the first nimbers are the own list of the sum.
-use Rattle.std.proofs.Common.{◌≤◌, ◌<◌, ◌+◌, ◌*◌, arith, ap, refl, subst, ◌∙◌, ℕ, Err, Ok}
-use Rattle.std.proofs.lemmas.Result.{err_from_is_err_and}
+use Rattle.std.proofs.Common.{◌≤◌, ◌<◌, ◌+◌, ◌*◌, arith, refl, subst, ℕ, Ok}
 use Rattle.cg_canon.proofs.MadeSteps.{made_with}
 use Rattle.cg_canon.specs.Works.{work_state}
 use Rattle.cg_sum.proofs.PairSteps.{is_within, pair_game, pair_made, pair_refused}
-use Rattle.cg_sum.proofs.SumEnds.{gives_refused, same_refusal}
+use Rattle.cg_sum.proofs.SumEnds.{gives_handed, gives_refused}
 use Rattle.cg_sum.proofs.nimber_sums.nimber_sum.Goals as goal
 
 pub returns-then-is_product_above : goal.returns-then-is_product_above
@@ -20,10 +19,8 @@ returns-in_err-add_nimbers g c =
     let P : ℕ → Type 0 = λ z. (c.args.pair.first + 1) * (c.args.pair.second + 1) ≤ z in
     let within = subst P c.limit.ensures (is_within _ _ (λ above.
     let t = c.is_product_above.ensures.1 above in let f = c.if-is_product_above.false in cc)) in
-    let p = err_from_is_err_and c.from_residual.result c.from_residual.ensures.1 in
-    gives_refused _ _ _ _ _ _ (p.1 ∙ ap Err p.2) (same_refusal _ _ _ c.add_nimbers.result _ _ c.in_err-add_nimbers.was (p.1 ∙ ap Err p.2)
-    (pair_made w _ _ c.args.pair c.requires.pair _ _ refl refl within _ c.add_nimbers.result c.add_nimbers.ensures.made))
-    c.add_nimbers.ensures.spare
+    let m = pair_made w _ _ c.args.pair c.requires.pair _ _ refl refl within _ _ c.in_err-add_nimbers.ensures.made in
+    gives_handed _ c.from_residual.ensures.1 m.refused m.keeps c.add_nimbers.ensures.spare
 
 pub returns : goal.returns
 returns g c =
