@@ -1,16 +1,17 @@
 -- Tickets that are drawn once each, over an order in which each line stands once: each line is answered once.
-use Rattle.std.proofs.Common.{◌≡◌, ◌≢◌, ℕ, zero, suc, ◌+◌, ◌*◌, ◌<◌, ◌≤◌, List, [], ◌∷◌, ◌++◌, map, length, refl, sym, ap, ◌∙◌, arith}
-use Rattle.std.specs.Prelude.{if◌then◌else◌, nat_lt, ◌==◌, IsPermutation}
+use Rattle.std.proofs.Common.{◌≡◌, ◌≢◌, inl, inr, ℕ, zero, suc, ◌+◌, ◌*◌, ◌<◌, ◌≤◌, List, [], ◌∷◌, ◌++◌, map, length, refl, sym, ap, ◌∙◌, arith}
+use Rattle.std.specs.Prelude.{if◌then◌else◌, nat_lt, ◌==◌, ◌^◌, slice_index, IsPermutation}
+use Rattle.std.specs.List.Sorted.{IsNonDecreasingBy}
 use Rattle.std.specs.List.{range_with_len}
 use Rattle.std.proofs.Math.Nat.{add-mul, one-mul, zero-mul}
 use Rattle.std.proofs.lemmas.Bool.Decides.{nat_tests}
 use Rattle.std.proofs.lemmas.List.FromFn.{length-range_with_len, map-range_with_len_more}
 use Rattle.std.proofs.lemmas.List.Sorted.{length_permutation}
 use mathlib.Core.Logic.{dite}
-use native.Mathlib.Decide.{ℕ_discrete}
+use native.Mathlib.Decide.{ℕ_discrete, dec_lt}
 use Rattle.cg_cells.specs.Table.{times}
 use Rattle.cg_cells.proofs.Tickets.{times_head}
-use Rattle.cg_pool.specs.Answers.{IsOrder, line_at}
+use Rattle.cg_pool.specs.Answers.{IsBefore, IsFalling, IsOrder, line_at, place}
 use Rattle.cg_pool.proofs.Sorting.{times_permuted}
 
 -- ---- sums over the numbers below a bound
@@ -101,15 +102,16 @@ answered_once count order ts is each n =
     ∙ sym (times_list n order ∙ ap (λ (k : ℕ). below f k) is.long)
     ∙ is.once n
 
+-- a number of the list stands in it
+stands : (order : List ℕ) (t : ℕ) → t < length order → 1 ≤ times (line_at order t) order
+stands [] t low = absurd (omega arith)
+stands (x ∷ order) zero low = times_head x order
+stands (x ∷ order) (suc t) low = let a = stands order t (omega arith) in omega arith
+
 -- a line of the order is one of the lines
 pub line_inside : (count : ℕ) (order : List ℕ) (t : ℕ) → IsOrder count order → t < count → line_at order t < count
 line_inside count order t is low =
     one_or_none (line_at order t) count (times (line_at order t) order) (is.once (line_at order t)) (stands order t (omega (arith, is.long, low)))
-  where
-    stands : (order : List ℕ) (t : ℕ) → t < length order → 1 ≤ times (line_at order t) order
-    stands [] t low = absurd (omega arith)
-    stands (x ∷ order) zero low = times_head x order
-    stands (x ∷ order) (suc t) low = let a = stands order t (omega arith) in omega arith
 
 -- ---- the order by weight
 
@@ -135,3 +137,42 @@ sorted_order count lines order e P = record {
   where
     from_none : (n : ℕ) → ◌≡◌ {A = ℕ} (if nat_lt n 0 then 0 else (if nat_lt n (0 + count) then 1 else 0)) (if nat_lt n count then 1 else 0)
     from_none n = grind (arith, nat_tests)
+
+-- ---- it falls
+
+-- what stands at two places stands there twice
+twice : (order : List ℕ) (i j : ℕ) → i < j → j < length order → line_at order i ≡ line_at order j → 2 ≤ times (line_at order i) order
+twice [] i j less low same = absurd (omega arith)
+twice (x ∷ order) zero zero less low same = absurd (omega arith)
+twice (x ∷ order) zero (suc j) less low same =
+    let a = times_head x order in
+    let b = ap (λ (n : ℕ). times n order) same in
+    let c = stands order j (omega arith) in
+    let d = own_one x in
+    omega arith
+twice (x ∷ order) (suc i) zero less low same = absurd (omega arith)
+twice (x ∷ order) (suc i) (suc j) less low same = let a = twice order i j (omega arith) (omega arith) same in omega arith
+
+apart : (count : ℕ) (order : List ℕ) (i j : ℕ) → IsOrder count order → i < j → j < length order → line_at order i ≢ line_at order j
+apart count order i j is less low same =
+    let two = twice order i j less low same in
+    let inside = line_inside count order i is (omega (arith, is.long)) in
+    let one = is.once (line_at order i) ∙ one_inside (line_at order i) count inside in
+    omega arith
+
+-- of two lines the one that comes earlier, by the number that rises along the order
+before : (weights : List ℕ) (a b : ℕ) → slice_index weights a < 2 ^ 64 → slice_index weights b < 2 ^ 64 → a < 2 ^ 64 → b < 2 ^ 64 → a ≢ b
+    → place weights a ≤ place weights b → IsBefore weights a b
+before weights a b x y m n far low = dite (dec_lt (slice_index weights b) (slice_index weights a))
+    (λ less. inl less)
+    (λ more. inr (omega arith, omega (arith, far)))
+
+pub falling : (count : ℕ) (weights order : List ℕ) → count ≤ 2 ^ 64 → ((n : ℕ) → slice_index weights n < 2 ^ 64) → IsOrder count order
+    → IsNonDecreasingBy (place weights) order → IsFalling weights order
+falling count weights order few small is rises i j less low =
+    let long = is.long in
+    let a = line_at order i in
+    let b = line_at order j in
+    let m = line_inside count order i is (omega arith) in
+    let n = line_inside count order j is (omega arith) in
+    before weights a b (small a) (small b) (omega arith) (omega arith) (apart count order i j is less low) (rises i j 0 (omega arith) low)

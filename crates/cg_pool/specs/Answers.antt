@@ -1,5 +1,6 @@
 -- Answers, each with the number of its line, and what workers bring back.
-use Rattle.std.specs.Prelude.{◌≡◌, ◌≤◌, ℕ, List, [], length, true, Some, slice_get, get_or, All, Contains, if◌then◌else◌, nat_lt}
+use Rattle.std.specs.Prelude.{◌≡◌, ◌<◌, ◌≤◌, ◌⊎◌, ℕ, ◌+◌, ◌-◌, ◌*◌, ◌^◌, if◌then◌else◌, nat_lt}
+use Rattle.std.specs.Prelude.{List, [], length, true, Some, slice_get, slice_index, get_or, All, Contains}
 use Rattle.std.specs.Prelude as list
 use Rattle.std.specs.FinMap as map
 use Rattle.std.specs.Ordering.{nat_cmp}
@@ -19,6 +20,20 @@ pub record IsOrder (count : ℕ) (order : List ℕ) : Type 0 where
 -- the line that is answered for a ticket
 abbrev pub line_at : List ℕ → ℕ → ℕ
 line_at order ticket = get_or order ticket 0
+
+-- of the lines of two tickets the first has the greater weight, or the same and a lesser number
+abbrev pub IsBefore : List ℕ → ℕ → ℕ → Type 0
+IsBefore weights a b =
+    (slice_index weights b < slice_index weights a) ⊎ ((slice_index weights a ≡ slice_index weights b) × (a < b))
+
+-- an order in which no line stands behind one of less weight, and lines of one weight stand as they are numbered
+abbrev pub IsFalling : List ℕ → List ℕ → Type 0
+IsFalling weights order =
+    (i j : ℕ) → i < j → j < length order → IsBefore weights (line_at order i) (line_at order j)
+
+-- a number that is less the earlier a line comes
+abbrev pub place : List ℕ → ℕ → ℕ
+place weights line = (2 ^ 64 - 1 - slice_index weights line) * 2 ^ 64 + line
 
 -- A pass of this table with which a worker begins: it has drawn no line, the order is one of the table's lines, which are at most so
 -- many, and a line's share is at least what an answer needs

@@ -5,7 +5,7 @@ ghost use Rattle.cg_shared.specs.Passes.{IsPassOf, pass_state};
 
 use crate::order::{by_weight, put_in_order};
 use crate::workers::answer_side_by_side;
-use crate::{Gate, Job};
+use crate::{CachingJob, Gate};
 use cg_cells::Facts;
 use cg_shared::{Pass, SharedCells, StartFault};
 use std::alloc::{AllocError, Global};
@@ -20,9 +20,36 @@ pub struct Evaluated<F: Facts, A: Drop> {
     pub pass: Pass<F>,
 }
 
-/// Answers the lines of a job that have these weights, each on so many cells of one new table, by so many workers.
-/// Lines of greater weight are begun first. Which worker takes which line is left open.
-pub fn evaluate<R: Threads + Sync, F: Facts + Sync, J: Job<F>, G: Gate>(
+/// Answers so many lines of a job, each on so many cells of one new table, by so many workers. The ticket of a line is
+/// its index. Which worker takes which line is left open. The only error is want of memory.
+pub fn evaluate<R: Threads + Sync, F: Facts + Sync, J: CachingJob<F>, G: Gate>(
+    rt: &R,
+    alloc: Global,
+    count: u64,
+    share: u64,
+    workers: u64,
+    job: &J,
+    gate: &G,
+) -> Result<Evaluated<F, J::Answer>, AllocError>
+    requires cells { (1 ≤ count * share) × (count * share ≤ 2 ^ 26) }
+    requires workers { (1 ≤ workers) × (workers ≤ 64) }
+    requires lines { count ≤ J.count job.now }
+    requires share { J.needs job.now ≤ share }
+    ensures table { IfOk result
+        (λ e. e.cells.sizes ≡ record { lines = count; share = share; passes = workers }) }
+    ensures pass { IfOk result (λ e. IsPassOf e.cells e.pass × HasAllTickets e.pass.sees) }
+    ensures long { IfOk result (λ e. length e.answers.items ≡ count) }
+    ensures good { IfOk result
+        (λ e. (n : ℕ) (answer : J.Answer) → slice_get e.answers.items n ≡ Some answer
+        → J.good job.now n answer (pass_state e.pass).known) }
+{
+    let weights = vec![in alloc; 0u64; count as usize]?;
+    evaluate_by_weight::<R, F, J, G>(rt, alloc, &weights, share, workers, job, gate)
+}
+
+/// Answers the lines of a job that have these weights as [`evaluate`] does, but that lines of greater weight are begun
+/// first: the n-th ticket is the line with the n-th greatest weight, and lines of one weight stay in their order.
+pub fn evaluate_by_weight<R: Threads + Sync, F: Facts + Sync, J: CachingJob<F>, G: Gate>(
     rt: &R,
     alloc: Global,
     weights: &[u64],

@@ -10,15 +10,11 @@ use cg_cells::Facts;
 use cg_shared::Desk;
 use std::alloc::{AllocError, Global};
 
-/// Lines that can be answered in any order. Contracts see how many there are, the spare that an answer needs, which
-/// answers are good for a line under what is known, and when what a worker holds is right under what is known. An
-/// answer stays good when more is known, and what the cache has stays right.
+/// Lines that can be answered in any order. Contracts see how many there are, the spare that an answer needs, and which
+/// answers are good for a line under what is known. An answer stays good when more is known.
 pub trait Job<F: Facts>: Sync {
     /// The answer to one line.
     type Answer: Send + Drop;
-
-    /// What a worker holds from line to line.
-    type Cache: Send + Drop;
 
     ghost count: { Self → ℕ };
 
@@ -26,34 +22,21 @@ pub trait Job<F: Facts>: Sync {
 
     ghost good: { Self → ℕ → Self.Answer → map.FinMap nat_cmp F.Thing → Type 0 };
 
-    ghost holds: { Self.Cache → map.FinMap nat_cmp F.Thing → Type 0 };
-
-    /// What a worker begins with. It is right whatever is known.
-    fn start(&self, alloc: Global) -> Self::Cache
-        ensures { (f : map.FinMap nat_cmp F.Thing) → holds result f };
-
     /// Answers the line with this index over a desk. Whatever it answers, the desk holds the same pass of the same
-    /// table, which has the tickets, heirs and meets that it had, and knows what it knew. With an answer, what the
-    /// worker holds is right; of what an error leaves of it nothing is said.
+    /// table, which has the tickets, heirs and meets that it had, and knows what it knew.
     fn work(
         &self,
         alloc: Global,
         desk: &mut Desk<'_, F>,
-        cache: &mut Self::Cache,
         index: u64,
     ) -> Result<Self::Answer, AllocError>
         requires index { index < count self.now }
         requires spare { needs self.now ≤ (pass_state desk.old).spare }
-        requires cache { holds cache.old (pass_state desk.old).known }
         ensures good { IfOk result
             (λ answer. good self.now index answer (pass_state desk.new).known) }
         ensures known { Grows (thing_at (pass_state desk.old)) (thing_at (pass_state desk.new)) }
-        ensures rest { (pass_state desk.new).rest ≡ (pass_state desk.old).rest }
-        ensures cache { IfOk result (λ _. holds cache.new (pass_state desk.new).known) };
+        ensures rest { (pass_state desk.new).rest ≡ (pass_state desk.old).rest };
 
     ghost stays: { (job : Self) (n : ℕ) (answer : Self.Answer) (f g : map.FinMap nat_cmp F.Thing)
         → Grows (map.get f) (map.get g) → good job n answer f → good job n answer g };
-
-    ghost holding: { (cache : Self.Cache) (f g : map.FinMap nat_cmp F.Thing) → Grows (map.get f) (map.get g)
-        → holds cache f → holds cache g };
 }

@@ -2,12 +2,14 @@
 //! order.
 #![tactic(auto)]
 
+mod caching;
 mod evaluation;
 mod gate;
 mod job;
 mod order;
 mod workers;
 
-pub use evaluation::{Evaluated, evaluate};
+pub use caching::CachingJob;
+pub use evaluation::{Evaluated, evaluate, evaluate_by_weight};
 pub use gate::{Gate, NoGate};
 pub use job::Job;

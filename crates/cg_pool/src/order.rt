@@ -1,20 +1,32 @@
 //! The order in which lines are answered, and answers in the order of their lines.
 ghost use Rattle.std.specs.Prelude.{◌≡◌, ℕ, IfOk, if◌then◌else◌, length, nat_lt};
 ghost use Rattle.cg_cells.specs.Table.{times};
-ghost use Rattle.cg_pool.specs.Answers.{numbers, AreOrdered, IsOrder};
+ghost use Rattle.cg_pool.specs.Answers.{numbers, AreOrdered, IsFalling, IsOrder, place};
 
 use std::alloc::{AllocError, Global};
-use std::cmp::Reverse;
+
+/// A number that rises along the order: it is less for a line of greater weight, and of lines of one weight for the
+/// earlier one.
+fn place_of(weights: &[u64], line: u64) -> u128
+    ensures { result ≡ place weights.now line }
+{
+    let weight = match weights.get(line as usize) {
+        Some(weight) => *weight,
+        None => 0,
+    };
+    u128::from(u64::MAX - weight) * (1 << 64) + u128::from(line)
+}
 
 /// The lines that have these weights, in falling order of them. Lines of one weight stay as they stand.
 pub(crate) fn by_weight(alloc: Global, weights: &[u64]) -> Result<Vec<u64>, AllocError>
-    ensures { IfOk result (λ order. IsOrder (length weights.now) order.items) }
+    ensures order { IfOk result (λ order. IsOrder (length weights.now) order.items) }
+    ensures falling { IfOk result (λ order. IsFalling weights.now order.items) }
 {
     let mut order = Vec::with_capacity(alloc, weights.len())?;
     for line in 0..weights.len() as u64 {
         order.push(line)?;
     }
-    order.sort_unstable_by_key(|line| (Reverse(weights.get(*line as usize).copied()), *line));
+    order.sort_unstable_by_key(|line| place_of(weights, *line));
     Ok(order)
 }
 

@@ -4,7 +4,7 @@ ghost use Rattle.std.specs.Thread.{IsSync};
 ghost use Rattle.cg_shared.specs.Passes.{IsPassOf, pass_state};
 ghost use Rattle.cg_pool.specs.Answers.{BringsBack, HasAnswered, IsReady};
 
-use crate::{Gate, Job};
+use crate::{CachingJob, Gate};
 use cg_cells::Facts;
 use cg_shared::{Desk, Pass, SharedCells, Ticket};
 use std::alloc::{AllocError, Global};
@@ -12,7 +12,7 @@ use std::thread;
 use std::thread::Threads;
 
 // Answers one line with the pass and what the worker holds.
-fn answer_line<F: Facts, J: Job<F>>(
+fn answer_line<F: Facts, J: CachingJob<F>>(
     cells: &SharedCells<F>,
     alloc: Global,
     job: &J,
@@ -33,7 +33,7 @@ fn answer_line<F: Facts, J: Job<F>>(
 }
 
 // Draws lines in this order and answers them until none is left, and holds one thing for all of them.
-fn answer_lines<F: Facts, J: Job<F>, G: Gate>(
+fn answer_lines<F: Facts, J: CachingJob<F>, G: Gate>(
     cells: &SharedCells<F>,
     alloc: Global,
     order: &[u64],
@@ -73,7 +73,7 @@ fn append<A: Drop>(
 }
 
 /// As many workers as the pass has heirs, and one more. They go by std's join, and their passes meet.
-pub(crate) fn answer_side_by_side<R: Threads + Sync, F: Facts + Sync, J: Job<F>, G: Gate>(
+pub(crate) fn answer_side_by_side<R: Threads + Sync, F: Facts + Sync, J: CachingJob<F>, G: Gate>(
     rt: &R,
     cells: &SharedCells<F>,
     alloc: Global,

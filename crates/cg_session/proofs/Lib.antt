@@ -1,3 +1,4 @@
+pub mod Counting
 pub mod Crossing
 pub mod Endings
 pub mod FormatOne
@@ -5,4 +6,5 @@ pub mod Fronts
 pub mod Knowing
 pub mod Outputs
 pub mod Shares
+pub mod Wholes
 pub mod Writings

@@ -1,6 +1,7 @@
 -- How a session ends.
-use Rattle.std.specs.Prelude.{ℕ, ◌≡◌, ◌<◌, ◌^◌, ◌⊎◌, List, [], Option, Some, IfSome}
+use Rattle.std.specs.Prelude.{ℕ, ◌≡◌, ◌<◌, ◌^◌, ◌⊎◌, ◌↔◌, List, [], Option, Some, IfSome, length}
 use Rattle.std.specs.Io.KnownBytes.{Keeps, Appends}
+use Rattle.cg_io.specs.Counts.{CountsMore}
 use Rattle.cg_words.specs.declared.settings.Settings.{Settings}
 use Rattle.cg_words.specs.Accepted.{IsAccepted, settings_of}
 use Rattle.cg_session.specs.declared.status.Status.{Status}
@@ -68,6 +69,25 @@ Writes end words input left before now =
 -- the ends at which the whole of what a session writes was written
 abbrev pub IsWhole : Status → Type 0
 IsWhole end = (end ≡ status.Done) ⊎ (end ≡ status.Refused)
+
+-- the fact, at these ends
+abbrev pub AtWhole : Status → Type 0 → Type 0
+AtWhole status.Done P = P
+AtWhole status.Refused P = P
+AtWhole _ P = Unit {0}
+
+-- At such an end, whatever the source and the sink tell: the text is a session within the limits, it is the sample or what the source
+-- told, if it told anything; the end says whether a line of it is refused; and the whole of what it writes was appended, and counted.
+-- The sink had counted `fewer` bytes and has counted `more`.
+pub record IsSessionOf (end : Status) (s : Settings) (input before now : Option (List ℕ)) (fewer more : Option ℕ) (text : List ℕ)
+    : Type 0 where
+  pub within : IsWithinLimits s text
+  pub told : IfSome (session_text s input) (λ all. text ≡ all)
+  pub output : Output
+  pub is_written : IsWritten s text output
+  pub end_is : (end ≡ status.Done) ↔ (output.refused ≡ 0)
+  pub appended : Appends before now output.text
+  pub counted : CountsMore (length output.text) fewer more
 
 -- how a session may end where neither count of faults rose and the session is within the limits
 abbrev pub AnswersOrLacksMemory : Status → Type 0

@@ -14,7 +14,7 @@ use crate::output::{Output, make_output, make_summary};
 use crate::weighing::weights_of;
 use cg_eval::{Answered, CgBoards};
 use cg_nodes::GameFacts;
-use cg_pool::{Evaluated, Gate, evaluate};
+use cg_pool::{Evaluated, Gate, evaluate_by_weight};
 use cg_syntax::laws::one_session;
 use cg_syntax::{SessionLine, read_session_within};
 use cg_words::Settings;
@@ -86,7 +86,7 @@ fn answer_lines<R: Threads + Sync, G: Gate>(
         share: settings.cells / lines.len() as u64,
         positions: settings.positions,
     };
-    let kept = evaluate::<R, GameFacts<CgBoards>, LineJob<'_>, G>(
+    let kept = evaluate_by_weight::<R, GameFacts<CgBoards>, LineJob<'_>, G>(
         rt,
         alloc,
         &weights,

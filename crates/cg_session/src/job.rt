@@ -15,7 +15,7 @@ use cg_canon::Cache;
 use cg_cells::CellStore;
 use cg_eval::{Answered, CgBoards, answer_query_cached};
 use cg_nodes::GameFacts;
-use cg_pool::Job;
+use cg_pool::CachingJob;
 use cg_shared::Desk;
 use cg_syntax::{Asked, SessionLine};
 use std::alloc::{AllocError, Global};
@@ -28,7 +28,7 @@ pub struct LineJob<'a> {
     pub positions: u64,
 }
 
-impl<'a> Job<GameFacts<CgBoards>> for LineJob<'a> {
+impl<'a> CachingJob<GameFacts<CgBoards>> for LineJob<'a> {
     type Answer = Answered;
 
     type Cache = Cache;

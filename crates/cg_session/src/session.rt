@@ -1,8 +1,8 @@
 //! The top call.
-ghost use Rattle.std.specs.Prelude.{◌≡◌, ◌+◌, ◌<◌, ◌≤◌, ◌^◌, [], IfSome, MatchOption, None};
+ghost use Rattle.std.specs.Prelude.{◌≡◌, ◌+◌, ◌<◌, ◌≤◌, ◌^◌, ℕ, List, [], IfSome, MatchOption, None};
 ghost use Rattle.cg_io.specs.Faults.{Rose};
 ghost use Rattle.cg_words.specs.Accepted.{IsAccepted, settings_of};
-ghost use Rattle.cg_session.specs.Ends.{AnswersOrLacksMemory, EndsBeforeAnswers, IsWhole};
+ghost use Rattle.cg_session.specs.Ends.{AnswersOrLacksMemory, AtWhole, EndsBeforeAnswers, IsSessionOf, IsWhole};
 ghost use Rattle.cg_session.specs.Ends.{UsageOrLacksMemory, Writes};
 ghost use Rattle.cg_session.specs.Input.{TakesAtMost};
 ghost use Rattle.cg_session.specs.Kept.{KeepsSession};
@@ -31,7 +31,8 @@ const USAGE_LINE: &[u8] = b"usage: cg [--workers W] [--cells N] [--positions P] 
 /// have 1,048,576 bytes and 4,096 answered lines, and at most as many of them as the table has cells. Reading stops at
 /// the end, at a fault, or once one byte more was taken. The first byte is written when all answers and the whole
 /// output stand. After the last byte was written, the answers, their table, and a pass of it are put into `kept`, where
-/// the session has an answered line.
+/// the session has an answered line. Whatever the source is, what is kept are then the answers to the lines of one text
+/// within the limits, and the output is that text's.
 pub fn run<R: Threads + Sync, S: Source, K: Sink, G: Gate>(
     rt: &R,
     alloc: Global,
@@ -82,6 +83,13 @@ pub fn run<R: Threads + Sync, S: Source, K: Sink, G: Gate>(
         MatchOption kept.new (answered_lines text ≡ []) (λ k.
         KeepsSession (settings_of (texts words.now)) text k.answers.items k.cells k.pass)) }
     ensures not_kept { ¬ IsWhole result → kept.new ≡ None }
+
+    // So it is where the source and the sink tell nothing, too: some text is the session that is answered and kept.
+    ensures session { AtWhole result ((text : List ℕ)
+        × IsSessionOf result (settings_of (texts words.now)) (S.left source.old) (K.taken sink.old) (K.taken sink.new)
+        (K.counted sink.old) (K.counted sink.new) text
+        × MatchOption kept.new (answered_lines text ≡ []) (λ k.
+        KeepsSession (settings_of (texts words.now)) text k.answers.items k.cells k.pass)) }
 {
     let settings = match Settings::read(alloc, words) {
         Ok(settings) => settings,

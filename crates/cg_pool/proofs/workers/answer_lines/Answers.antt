@@ -7,9 +7,9 @@ use Rattle.cg_pool.proofs.workers.answer_lines.Goals as goal
 
 pub loop-ticket-init : goal.loop-ticket-init
 loop-ticket-init g c =
-    let stays = (g.met.J.Job g.world.𝓛 g.world.𝓜 g.world.𝓡 ((λ s x. x), (λ x. x), (λ x. x), (λ x. x))).stays in (
-      sets_out (g.J.Job.good c.args.job.now) (λ n a f h. stays c.args.job.now n a f h) c.args.order.now c.args.cells.now c.new-answers.result.items c.args.pass
-          c.new-answers.ensures.items c.requires.own c.requires.new,
+    let stays = (g.met.J.CachingJob g.world.𝓛 g.world.𝓜 g.world.𝓡 ((λ s x. x), (λ x. x), (λ x. x), (λ x. x))).stays in (
+      sets_out (g.J.CachingJob.good c.args.job.now) (λ n a f h. stays c.args.job.now n a f h) c.args.order.now c.args.cells.now
+          c.new-answers.result.items c.args.pass c.new-answers.ensures.items c.requires.own c.requires.new,
       c.start-cache.ensures (pass_state c.args.pass).known,
     )
 
@@ -19,7 +19,7 @@ answer_line-done-requires-clause-index g c κs within =
 
 pub answer_line-done-requires-clause-cache : goal.answer_line-done-requires-clause-cache
 answer_line-done-requires-clause-cache g c =
-    let holding = (g.met.J.Job g.world.𝓛 g.world.𝓜 g.world.𝓡 ((λ s x. x), (λ x. x), (λ x. x), (λ x. x))).holding in
+    let holding = (g.met.J.CachingJob g.world.𝓛 g.world.𝓜 g.world.𝓡 ((λ s x. x), (λ x. x), (λ x. x), (λ x. x))).holding in
     let before = c.loop-ticket.pass in
     let after = c.draw.new.pass in
     let grows = drawn_knows c.in-Some.field-0.0 (before.sees.spare + c.args.cells.now.sizes.share) before.sees after.sees c.in-Some.ensures.drew.1 in
@@ -27,14 +27,14 @@ answer_line-done-requires-clause-cache g c =
 
 pub returns-in_default : goal.returns-in_default
 returns-in_default g c =
-    let stays = (g.met.J.Job g.world.𝓛 g.world.𝓜 g.world.𝓡 ((λ s x. x), (λ x. x), (λ x. x), (λ x. x))).stays in
-    comes_back (g.J.Job.good c.args.job.now) (λ n a f h. stays c.args.job.now n a f h) c.args.order.now c.args.cells.now (passes_of c.args.pass.sees)
+    let stays = (g.met.J.CachingJob g.world.𝓛 g.world.𝓜 g.world.𝓡 ((λ s x. x), (λ x. x), (λ x. x), (λ x. x))).stays in
+    comes_back (g.J.CachingJob.good c.args.job.now) (λ n a f h. stays c.args.job.now n a f h) c.args.order.now c.args.cells.now (passes_of c.args.pass.sees)
     c.loop-ticket.answers.items c.loop-ticket.pass c.draw.new.pass c.loop-ticket.invariant.0 c.in_default.ensures.own c.in_default.ensures.drew
 
 pub loop-ticket-preserved : goal.loop-ticket-preserved
 loop-ticket-preserved g c =
-    let stays = (g.met.J.Job g.world.𝓛 g.world.𝓜 g.world.𝓡 ((λ s x. x), (λ x. x), (λ x. x), (λ x. x))).stays in (
-      goes_on (g.J.Job.good c.args.job.now) (λ n a f h. stays c.args.job.now n a f h) c.args.order.now c.args.cells.now (passes_of c.args.pass.sees)
+    let stays = (g.met.J.CachingJob g.world.𝓛 g.world.𝓜 g.world.𝓡 ((λ s x. x), (λ x. x), (λ x. x), (λ x. x))).stays in (
+      goes_on (g.J.CachingJob.good c.args.job.now) (λ n a f h. stays c.args.job.now n a f h) c.args.order.now c.args.cells.now (passes_of c.args.pass.sees)
           c.in-Some.field-0.0 (c.loop-ticket.pass.sees.spare + c.args.cells.now.sizes.share) c.loop-ticket.answers.items c.push.new.self.items
           c.in_ok-answer.answer
           c.loop-ticket.pass c.draw.new.pass c.in_ok-answer.after c.loop-ticket.invariant.0 c.in-Some.ensures.drew.1 c.in_ok-answer.ensures.answer

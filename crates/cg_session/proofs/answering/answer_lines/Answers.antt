@@ -59,6 +59,6 @@ returns-clause-kept g c =
           (of.good n answer has line at);
     }
 
-pub evaluate-requires-sync-J : goal.evaluate-requires-sync-J
-evaluate-requires-sync-J g c κs within =
+pub evaluate_by_weight-requires-sync-J : goal.evaluate_by_weight-requires-sync-J
+evaluate_by_weight-requires-sync-J g c κs within =
     param_sync 2 (arg-7-2 g.row.R g.row.G g.R.laws g.G.laws g.R.Threads-dict g.G.Gate-dict κs) (search (sendable, job_sync) depth 4)

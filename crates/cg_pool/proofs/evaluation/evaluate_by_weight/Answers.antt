@@ -5,7 +5,7 @@ use Rattle.cg_shared.specs.Passes.{pass_state}
 use Rattle.cg_cells.specs.Table.{HasAllTickets, times}
 use Rattle.cg_pool.specs.Answers.{IsOrder}
 use Rattle.cg_pool.proofs.Orders.{answered_once}
-use Rattle.cg_pool.proofs.evaluation.evaluate.Goals as goal
+use Rattle.cg_pool.proofs.evaluation.evaluate_by_weight.Goals as goal
 
 pub put_in_order-requires : goal.put_in_order-requires
 put_in_order-requires g c = λ n.
@@ -13,7 +13,7 @@ put_in_order-requires g c = λ n.
     let lines : c.in_ok-answers.pass.sees.sizes.lines ≡ length c.args.weights.now = search rules in
     ap (times n) c.in_ok-answers.ensures.tickets
     ∙ answered_once (length c.args.weights.now) c.deref.result.now c.in_ok-answers.pass.sees.tickets
-    (subst (IsOrder (length c.args.weights.now)) (sym c.deref.ensures.value) c.in_ok-order.ensures)
+    (subst (IsOrder (length c.args.weights.now)) (sym c.deref.ensures.value) c.in_ok-order.ensures.order)
     (λ t. all t ∙ ap (λ (m : ℕ). if nat_lt t m then 1 else 0) lines) n
 
 pub returns-clause-pass : goal.returns-clause-pass
@@ -22,6 +22,6 @@ returns-clause-pass g c =
 
 pub returns-clause-good : goal.returns-clause-good
 returns-clause-good g c = λ n answer e.
-    All-contains (λ (a : ℕ × g.row.J-Answer.Denot). g.J.Job.good c.args.job.now a.0 a.1 (pass_state c.in_ok-answers.pass).known)
+    All-contains (λ (a : ℕ × g.row.J-Answer.Denot). g.J.CachingJob.good c.args.job.now a.0 a.1 (pass_state c.in_ok-answers.pass).known)
     c.in_ok-answers.answers.items (n, answer)
     c.in_ok-answers.ensures.are_good (c.in_ok-answers-2.ensures.each n answer e)

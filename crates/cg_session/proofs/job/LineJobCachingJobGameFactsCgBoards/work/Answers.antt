@@ -2,7 +2,7 @@ use Rattle.std.proofs.Common.{get_or, map}
 use Rattle.cg_shared.specs.Passes.{pass_state}
 use Rattle.cg_syntax.specs.SessionViews.{line_of}
 use Rattle.cg_session.proofs.Knowing.{value_at, good_line, cache_on, cache_under}
-use Rattle.cg_session.proofs.job.LineJobJobGameFactsCgBoards.work.Goals as goal
+use Rattle.cg_session.proofs.job.LineJobCachingJobGameFactsCgBoards.work.Goals as goal
 
 pub answer_line-requires-clause-cache : goal.answer_line-requires-clause-cache
 answer_line-requires-clause-cache c = cache_on (pass_state c.args.desk.now) c.args.cache.now c.requires.cache
