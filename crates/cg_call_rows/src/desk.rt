@@ -153,7 +153,7 @@ impl<'a, B: BoardForms, S: CellStore<GameFacts<B>>> Desk<'a, B, S> {
     /// Makes the item of a number.
     fn number(&mut self, alloc: Global, text: &str) -> anyhow::Result<String> {
         let (front, extra) = extra_of(text);
-        let handle = number_item(&mut self.work, number(front).ok(), extra.min(8))?;
+        let handle = number_item(alloc, &mut self.work, number(front).ok(), extra.min(8))?;
         self.keep(handle)?;
         Ok(self.place(alloc, handle)?)
     }

@@ -10,6 +10,8 @@
 //! - `home`, `blank`: homes of keys; the blank handle
 //! - `line`, `cuts`, `statement`, `session`: the question that a line reads as, or the column at which it is refused
 //! - `all`, `last`: values of heaps
+//! - `nimber`, `clobber`: values, by their names, and what was spent on them
+//! - `sample`: the sample of so many lines, with ` ~ ` for each end of a line
 //! - the name of a game, or `rays`: boards
 #![tactic(auto)]
 
@@ -21,9 +23,20 @@ mod lines;
 mod numbers;
 mod text;
 mod trees;
+mod values;
 
 use crate::text::cut;
+use cg_sample::sample;
 use std::alloc::Global;
+
+/// The sample of so many lines, with a sign for each end of a line.
+fn sampled(alloc: Global, rest: &str) -> anyhow::Result<String> {
+    let lines = rest.parse::<u64>()?;
+    if !(1..=4096).contains(&lines) {
+        anyhow::bail!("no sample");
+    }
+    Ok(sample(alloc, lines)?.replace(alloc, "\n", " ~ ")?)
+}
 
 /// What a row is answered.
 fn answer(alloc: Global, row: &str) -> anyhow::Result<String> {
@@ -47,6 +60,8 @@ fn answer(alloc: Global, row: &str) -> anyhow::Result<String> {
             rest.as_bytes(),
         )?),
         "all" | "last" => heaps::answer(alloc, call, rest),
+        "nimber" | "clobber" => values::answer(alloc, call, rest),
+        "sample" => sampled(alloc, rest),
         _ => boards::answer(alloc, call, rest),
     }
 }

@@ -20,6 +20,7 @@ use std::alloc::Global;
 /// `extra` together bring the total cost above the share; the total is in the fault. After a refusal nothing was spent.
 /// It takes no memory.
 pub fn number_item<B: BoardForms, S: CellStore<GameFacts<B>>>(
+    alloc: Global,
     work: &mut Work<B, S>,
     x: Option<Dyadic>,
     extra: u64,
@@ -32,6 +33,7 @@ pub fn number_item<B: BoardForms, S: CellStore<GameFacts<B>>>(
     ensures spare { OnOk result ((work_state S.state work.old).spare + extra ≤ (work_state S.state work.new).spare) }
     ensures more { (work_state S.state work.old).spare ≤ (work_state S.state work.new).spare }
 {
+    let _ = alloc;
     match x {
         None => Err(ValueFault::Range),
         Some(value) => {

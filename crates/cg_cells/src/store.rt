@@ -13,8 +13,8 @@ use crate::{Facts, Id, Key};
 /// kind. No call forgets or changes what is known, nor an id that is noted, nor the rest. No call
 /// but `claim` changes the spare. No call takes memory or refuses.
 ///
-/// The six calls come first: `look`, `claim`, `note`, `noted`, `spare` and `same`. Two hints and a
-/// fact follow, which change nothing that contracts see.
+/// The six calls come first: `look`, `claim`, `note`, `noted`, `spare` and `same`. Two hints follow, which a store need
+/// not write, and a fact, whose body may be empty. They change nothing that contracts see.
 ///
 /// An id that isn't known may be in use all the same: other callers may have claimed it where a
 /// table is shared, and what a caller doesn't know it can't ask about.
@@ -82,12 +82,22 @@ pub trait CellStore<F: Facts> {
     /// Hint: this key may be claimed soon, so that the store may bring the words of its cell near.
     /// It answers the id that the claim would most likely give. A hint need not be right: nothing
     /// that contracts see changes, the key need not spell a thing, and the id need not be known.
+    ///
+    /// A store that brings nothing near leaves it as it stands here.
     fn prefetch_claim(&mut self, key: Key) -> Id
-        ensures { Spends 0 (state self.old) (state self.new) };
+        ensures { Spends 0 (state self.old) (state self.new) }
+    {
+        let _key = key;
+        Id::new(0)
+    }
 
-    /// Hint: a note may be looked for on this id soon. It need not be right, and the id need not be known.
+    /// Hint: a note may be looked for on this id soon. It need not be right, and the id need not be known. A store that
+    /// brings nothing near leaves it as it stands here.
     fn prefetch_note(&mut self, id: Id)
-        ensures { Spends 0 (state self.old) (state self.new) };
+        ensures { Spends 0 (state self.old) (state self.new) }
+    {
+        let _id = id;
+    }
 
     /// Fact: different known ids are known to be different things. The call does nothing: where
     /// `same` tells it of two ids, this tells it of all at once.

@@ -28,7 +28,7 @@ use Rattle.cg_eval.specs.Items.{items, question_items}
 use Rattle.cg_eval.specs.Progress.{Evaluates, EvaluatesTwo, Lacks, Makes, Stops}
 use Rattle.cg_eval.specs.Refused.{IsRefusedBy, IsRefusedFor, IsRefusedOver}
 use Rattle.cg_eval.specs.Reply.{IsReply, IsReplyBy, IsReplyTo, Piece, ill_formed, refusal_of, syntax_at}
-use Rattle.cg_eval.specs.Shown.{Answers, HandleIs, HandleOf, IsAnswered, IsDeep, shown}
+use Rattle.cg_eval.specs.Shown.{Answers, HandleIs, HandleOf, IsAnswered, IsDeep, IsDeepAt, shown}
 use Rattle.cg_eval.specs.Stores.{KeepsStore}
 use Rattle.cg_eval.proofs.Steps.{first_none, first_some, lacks_fault, lacks_front, lacks_then, makes_then}
 use Rattle.cg_eval.proofs.OneAnswer.{one-answer, some-answer}
@@ -152,6 +152,16 @@ handle-unread s line c a unread none = record {
   read = λ q h. absurd (unread.no_question q h);
   refusal = λ e. none;
 }
+
+pub deep-read : {R : Type 0} (share limit : ℕ) (s : State Meant R) (line : List ℕ) (q : Question) (a : Answered)
+    → ((p r : Question) → Reads line p → Reads line r → p ≡ r) → Reads line q → IsAnswered share limit s q a
+    → IsDeepAt share limit line
+deep-read share limit s line q a one reads is p h =
+    let P : Question → Type 0 = λ r. question_fault r ≡ None → (total : ℕ) → AllPass share 0 (question_items limit r) total → IsDeep r in
+    subst P (one q p reads h) is.deep
+
+pub deep-unread : (share limit : ℕ) (line : List ℕ) (c : ℕ) → IsUnread line c → IsDeepAt share limit line
+deep-unread share limit line c unread q h = absurd (unread.no_question q h)
 
 -- ---- one reply
 

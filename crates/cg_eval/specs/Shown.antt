@@ -53,6 +53,12 @@ IsDeep (temp t) = NeedsMore places (can (meaning t)) → 20 < depth_of (can (mea
 IsDeep (thermo t) = NeedsMore places (can (meaning t)) → 20 < depth_of (can (meaning t))
 IsDeep _ = Unit {0}
 
+-- where the line reads as a question and all of its items pass, the refusal of a mean or a temperature that needs too many places
+-- comes at a depth of more than 20 alone
+abbrev pub IsDeepAt : ℕ → ℕ → List ℕ → Type 0
+IsDeepAt share limit line =
+    (q : Question) → Reads line q → question_fault q ≡ None → (total : ℕ) → AllPass share 0 (question_items limit q) total → IsDeep q
+
 -- the answer to the question, with the value of its first expression exactly where it is no refusal
 pub record IsAnswer {R : Type 0} (s : State Meant R) (q : Question) (a : Answered) : Type 0 where
   pub text : IsAnswerTo q (shown a)

@@ -39,7 +39,7 @@ pub fn evaluate<S: CellStore<GameFacts<CgBoards>>>(
     ensures { Evaluates (work_state S.state work.old) (work_state S.state work.new) (tree_of expr.now) result }
 {
     match expr {
-        Expr::Number { negative, num, den } => literal(work, *negative, *num, *den),
+        Expr::Number { negative, num, den } => literal(alloc, work, *negative, *num, *den),
         Expr::Ups { down, count } => named_ups(alloc, work, *down, *count),
         Expr::Nimber(count) => named_nimber(alloc, work, *count),
         Expr::Switch { num, den } => named_switch(alloc, work, *num, *den),
@@ -51,7 +51,7 @@ pub fn evaluate<S: CellStore<GameFacts<CgBoards>>>(
         Expr::Game { kind, rules, board } => board_value(alloc, work, *kind, rules, board),
         Expr::Octal { code, heap } => heap_value(alloc, work, code, *heap),
         // A name that isn't replaced by what it stands for.
-        Expr::Name { .. } => nothing(work),
+        Expr::Name { .. } => nothing(alloc, work),
     }
 }
 
@@ -129,7 +129,7 @@ fn total<S: CellStore<GameFacts<CgBoards>>>(
         (trees.sum (terms_from (terms_in terms.now))) result }
 {
     match terms.as_slice().split_first() {
-        None => nothing(work),
+        None => nothing(alloc, work),
         Some((first, others)) => {
             let start = signed(alloc, work, first.minus, &first.expr)?;
             further(alloc, work, start, others)

@@ -1,7 +1,7 @@
 //! Lines, answered on a store.
-ghost use Rattle.std.specs.Prelude.{◌≡◌, ◌+◌, ◌≤◌, false, IfOk};
+ghost use Rattle.std.specs.Prelude.{◌≡◌, ◌+◌, ◌≤◌, false, IfOk, OnOk};
 ghost use Rattle.cg_eval.specs.Reply.{IsReply};
-ghost use Rattle.cg_eval.specs.Shown.{shown, HandleOf};
+ghost use Rattle.cg_eval.specs.Shown.{shown, HandleOf, IsDeepAt};
 ghost use Rattle.cg_eval.specs.Stores.{KeepsStore};
 ghost use Rattle.cg_grammar.specs.Lines.{is_blank_line, IsComment};
 
@@ -19,8 +19,9 @@ use std::alloc::{AllocError, Global};
 /// much of the store's spare, with so many positions at most in one list of items.
 ///
 /// It is the first of these that applies: `! syntax c` with the column at which the line leaves the grammar; and else
-/// the reply to its question, as [`answer_query`] gives it. The one fault is want of memory. Whatever it answers, what
-/// the store knew it knows, and its spare falls by the share at most.
+/// the reply to its question, as [`answer_query`] gives it. Its last refusal, of a mean or a temperature that needs
+/// more than 60 binary places, never comes where the value's depth is 20 or less. The one fault is want of memory.
+/// Whatever it answers, what the store knew it knows, and its spare falls by the share at most.
 pub fn answer<S: CellStore<GameFacts<CgBoards>>>(
     alloc: Global,
     store: &mut S,
@@ -33,6 +34,7 @@ pub fn answer<S: CellStore<GameFacts<CgBoards>>>(
     requires spare { share ≤ (S.state store.old).spare }
     ensures reply { IfOk result (λ a. IsReply share positions line.now (shown a)) }
     ensures handle { IfOk result (λ a. HandleOf (S.state store.new) line.now a.refused a.handle) }
+    ensures deep { OnOk result (IsDeepAt share positions line.now) }
     ensures keeps { KeepsStore (S.state store.old) (S.state store.new) }
     ensures spare { (S.state store.old).spare ≤ (S.state store.new).spare + share }
 {

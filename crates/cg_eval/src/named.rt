@@ -15,15 +15,17 @@ use std::alloc::Global;
 
 /// 0, as which a sum of no terms counts, and a use of a name.
 pub fn nothing<B: BoardForms, S: CellStore<GameFacts<B>>>(
+    alloc: Global,
     work: &mut Work<B, S>,
 ) -> Result<Handle, NoValue>
     ensures { Finds (work_state S.state work.old) (work_state S.state work.new) None zero_items zero_form result }
 {
-    widen(number_item(work, Some(zero()), 0))
+    widen(number_item(alloc, work, Some(zero()), 0))
 }
 
 /// The number of a literal.
 pub fn literal<B: BoardForms, S: CellStore<GameFacts<B>>>(
+    alloc: Global,
     work: &mut Work<B, S>,
     below: bool,
     num: u128,
@@ -32,7 +34,7 @@ pub fn literal<B: BoardForms, S: CellStore<GameFacts<B>>>(
     ensures { Evaluates (work_state S.state work.old) (work_state S.state work.new)
         (trees.number below num den) result }
 {
-    widen(number_item(work, Dyadic::from_digits(below, num, den), 0))
+    widen(number_item(alloc, work, Dyadic::from_digits(below, num, den), 0))
 }
 
 /// So many ups, or downs.

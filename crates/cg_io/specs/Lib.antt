@@ -1,4 +1,5 @@
 pub mod Faults
+pub mod Counts
 pub mod Memory
 pub mod Supply
 pub mod Adapter

@@ -5,9 +5,10 @@
 //! end; a count that stands there counts as risen in every call.
 #![tactic(auto)]
 
-ghost use Rattle.std.specs.Prelude.{◌≡◌, ℕ, ◌^◌, ◌<◌, ◌≤◌, List, length, Option, IfOk};
+ghost use Rattle.std.specs.Prelude.{◌≡◌, ℕ, ◌^◌, ◌<◌, ◌≤◌, List, length, Option, None, IfOk};
 ghost use Rattle.std.specs.Io.{ReadsAtMost};
 ghost use Rattle.std.specs.Io.KnownBytes.{ReadConsumes, WriteAppends};
+ghost use Rattle.cg_io.specs.Counts.{CountsTaken};
 ghost use Rattle.cg_io.specs.Faults.{HasCause};
 
 mod memory_sink;
@@ -54,6 +55,9 @@ pub trait Sink {
     /// The bytes that it took, where the sink tells them.
     ghost taken: { Self → Option (List ℕ) };
 
+    /// How many bytes it took, where the sink counts them. A sink need not say so.
+    ghost counted: { Self → Option ℕ } = { λ _. None };
+
     /// How many times it failed, which never falls.
     ghost faults: { Self → ℕ };
 
@@ -64,6 +68,7 @@ pub trait Sink {
         requires { 0 < length piece.now }
         ensures bound { IfOk result (λ n. (0 < n) × (n ≤ length piece.now)) }
         ensures bytes { WriteAppends (taken self.old) (taken self.new) result piece.now }
+        ensures counts { CountsTaken (counted self.old) (counted self.new) result }
         ensures cause { HasCause (faults self.old) (faults self.new) result };
 
     /// The count of faults is below 2^64.

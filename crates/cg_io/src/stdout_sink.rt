@@ -1,39 +1,48 @@
 //! A sink over a writer of std.
-ghost use Rattle.std.specs.Prelude.{◌≡◌, ℕ, ◌-◌, ◌^◌, ◌<◌, ◌≤◌, length, take, min, None, IfOk, OnOk, OnErr};
+ghost use Rattle.std.specs.Prelude.{◌≡◌, ℕ, ◌-◌, ◌^◌, ◌<◌, ◌≤◌, length, take, min, None, Some, IfOk, OnOk, OnErr};
 ghost use Rattle.std.specs.Io.KnownBytes.{Appends, WriteAppends};
 ghost use Rattle.std.proofs.Common.{rules};
+ghost use Rattle.cg_io.specs.Counts.{CountsTaken};
 ghost use Rattle.cg_io.specs.Faults.{HasCause, one_more};
 
 use crate::{Failed, Sink};
 use std::io::Write;
 use std::marker::Model;
 
-/// A sink over a writer of std, such as standard output. As a sink it tells no bytes.
+/// A sink over a writer of std, such as standard output. As a sink it tells no bytes, and counts those that it took.
 #[derive(Drop)]
 pub struct StdoutSink<W: Write + Drop> {
     writer: W,
+    // None once there were too many for a word.
+    counted: Option<u64>,
     faults: u64,
 }
 
 impl<W: Write + Drop> Model for StdoutSink<W> {
-    ghost use Rattle.cg_io.specs.Adapter.{Adapter};
+    ghost use Rattle.cg_io.specs.Adapter.{OutAdapter};
 
-    ghost Value = { Adapter };
+    ghost Value = { OutAdapter };
 
-    ghost view = { λ s. record { bytes = W.contents s.writer; faults = s.faults } };
+    ghost view = { λ s. record { bytes = W.contents s.writer; counted = s.counted; faults = s.faults } };
 }
 
 impl<W: Write + Drop> StdoutSink<W> {
-    /// A sink over this writer, with no faults so far.
+    /// A sink over this writer, with no bytes and no faults so far.
     pub fn new(writer: W) -> StdoutSink<W>
-        ensures { result ≡ record { bytes = W.contents writer; faults = 0 } }
+        ensures { result ≡ record { bytes = W.contents writer; counted = Some 0; faults = 0 } }
     {
-        StdoutSink { writer, faults: 0 }
+        StdoutSink {
+            writer,
+            counted: Some(0),
+            faults: 0,
+        }
     }
 }
 
 impl<W: Write + Drop> Sink for StdoutSink<W> {
     ghost taken = { λ _. None };
+
+    ghost counted = { λ s. s.counted };
 
     ghost faults = { λ s. min s.faults (2 ^ 64 - 1) };
 
@@ -45,6 +54,7 @@ impl<W: Write + Drop> Sink for StdoutSink<W> {
         requires { 0 < length piece.now }
         ensures bound { IfOk result (λ n. (0 < n) × (n ≤ length piece.now)) }
         ensures bytes { WriteAppends None None result piece.now }
+        ensures counts { CountsTaken self.old.counted self.new.counted result }
         ensures cause { HasCause (min self.old.faults (2 ^ 64 - 1)) (min self.new.faults (2 ^ 64 - 1)) result }
 
         // What is known of the writer's bytes, and the count.
@@ -56,6 +66,10 @@ impl<W: Write + Drop> Sink for StdoutSink<W> {
             && count > 0
             && self.writer.flush().is_ok()
         {
+            self.counted = match self.counted {
+                Some(before) => before.checked_add(count as u64),
+                None => None,
+            };
             return Ok(count);
         }
         self.faults = self.faults.saturating_add(1);

@@ -50,7 +50,7 @@ fn make_ups<B: BoardForms, S: CellStore<GameFacts<B>>>(
     ensures { Gives (work_state S.state work.old) (work_state S.state work.new)
         (map plain_item (ups_chain down false count)) (ups_form down count) result }
 {
-    let zero = make_zero(work)?;
+    let zero = make_zero(alloc, work)?;
     let mut last = make_star(alloc, work, zero)?;
     // The chain ends without a star, so its games have one by turns.
     let mut starred = count % 2 == 1;

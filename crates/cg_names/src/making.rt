@@ -28,23 +28,25 @@ pub(crate) fn within(count: u128, more: u64, limit: u64) -> Option<u64>
 
 /// Makes the item of a number.
 pub(crate) fn make_number<B: BoardForms, S: CellStore<GameFacts<B>>>(
+    alloc: Global,
     work: &mut Work<B, S>,
     x: Dyadic,
 ) -> Result<Handle, ValueFault>
     ensures { Gives (work_state S.state work.old) (work_state S.state work.new)
         (plain_item (number_form x) ∷ []) (number_form x) result }
 {
-    number_item(work, Some(x), 0)
+    number_item(alloc, work, Some(x), 0)
 }
 
 /// Makes the item of the number 0.
 pub(crate) fn make_zero<B: BoardForms, S: CellStore<GameFacts<B>>>(
+    alloc: Global,
     work: &mut Work<B, S>,
 ) -> Result<Handle, ValueFault>
     ensures { Gives (work_state S.state work.old) (work_state S.state work.new)
         (plain_item zero_form ∷ []) zero_form result }
 {
-    make_number(work, zero())
+    make_number(alloc, work, zero())
 }
 
 /// Makes the item of the game of these Left and Right options, or with the sides exchanged where it is `mirrored`.

@@ -41,7 +41,7 @@ fn make_nimbers<B: BoardForms, S: CellStore<GameFacts<B>>>(
     ensures { Gives (work_state S.state work.old) (work_state S.state work.new)
         (map plain_item (nimbers_below (suc count))) (nimber_form count) result }
 {
-    let mut last = make_zero(work)?;
+    let mut last = make_zero(alloc, work)?;
     let mut lesser = Vec::new(alloc);
     for level in 0..count {
         lesser.push(last)?;

@@ -37,7 +37,7 @@ pub fn switch<B: BoardForms, S: CellStore<GameFacts<B>>>(
     ensures more { (work_state S.state work.old).spare ≤ (work_state S.state work.new).spare }
 {
     match x {
-        None => number_item(work, None, 0),
+        None => number_item(alloc, work, None, 0),
         Some(number) => switch_of(alloc, work, number),
     }
 }
@@ -62,7 +62,7 @@ pub fn tiny<B: BoardForms, S: CellStore<GameFacts<B>>>(
     ensures more { (work_state S.state work.old).spare ≤ (work_state S.state work.new).spare }
 {
     match x {
-        None => number_item(work, None, 0),
+        None => number_item(alloc, work, None, 0),
         Some(number) => tiny_of(alloc, work, miny, number),
     }
 }
@@ -146,8 +146,8 @@ fn make_pair<B: BoardForms, S: CellStore<GameFacts<B>>>(
     ensures made { ItemsMade (work_state S.state work.old) (work_state S.state work.new) (map plain_item (pair_positions x y)) result }
     ensures more { (work_state S.state work.old).spare ≤ (work_state S.state work.new).spare }
 {
-    let first = make_number(work, x)?;
-    let second = make_other(work, x, first, y)?;
+    let first = make_number(alloc, work, x)?;
+    let second = make_other(alloc, work, x, first, y)?;
     let game = make(alloc, work, false, &[first], &[second])?;
     Ok(Pair {
         first,
@@ -158,6 +158,7 @@ fn make_pair<B: BoardForms, S: CellStore<GameFacts<B>>>(
 
 /// Makes `y` unless it is `x`, whose handle is given.
 fn make_other<B: BoardForms, S: CellStore<GameFacts<B>>>(
+    alloc: Global,
     work: &mut Work<B, S>,
     x: Dyadic,
     first: Handle,
@@ -170,7 +171,7 @@ fn make_other<B: BoardForms, S: CellStore<GameFacts<B>>>(
     if is_same(x, y) {
         Ok(first)
     } else {
-        make_number(work, y)
+        make_number(alloc, work, y)
     }
 }
 

@@ -116,4 +116,11 @@ impl Handles {
     {
         &self.items
     }
+
+    /// The handles, in their order, taken out.
+    pub fn into_vec(self) -> Vec<Handle>
+        ensures { result.items ≡ self }
+    {
+        self.items
+    }
 }

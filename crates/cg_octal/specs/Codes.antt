@@ -13,6 +13,13 @@ abbrev pub AreOctal : List ℕ → Type 0
 AreOctal [] = Unit {0}
 AreOctal (d ∷ ds) = (d < 8) × AreOctal ds
 
+-- what holds of each: 1 to 16 digits from 0 to 7, and at most 1,000 tokens
+pub record IsOctalHeap (o : OctalHeap) : Type 0 where
+  pub octal : AreOctal o.digits
+  pub some : 1 ≤ length o.digits
+  pub few : length o.digits ≤ 16
+  pub heap : o.heap ≤ 1000
+
 -- the text is `0.` and 1 to 16 digits from 0 to 7
 pub record IsCode (text digits : List ℕ) : Type 0 where
   pub spelled : text ≡ codes "0." ++ map (λ d. 48 + d) digits

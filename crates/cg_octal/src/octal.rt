@@ -1,9 +1,11 @@
 //! A heap of an octal game.
-ghost use Rattle.std.specs.Prelude.{◌≡◌, ◌≤◌};
+ghost use Rattle.std.specs.Prelude.{◌≡◌, ◌≤◌, length};
+ghost use Rattle.cg_octal.specs.Codes.{AreOctal, IsOctalHeap};
 
 use std::marker::Model;
 
-/// A code of an octal game, and a heap of at most 1,000 tokens. Contracts see its digits and its heap.
+/// A code of an octal game, 1 to 16 digits from 0 to 7, and a heap of at most 1,000 tokens. Contracts see its digits
+/// and its heap.
 #[derive(Debug, Drop)]
 pub struct Octal {
     digits: Vec<u8>,
@@ -11,8 +13,7 @@ pub struct Octal {
 }
 
 impl Model for Octal {
-    ghost use Rattle.std.specs.Prelude.{◌≤◌};
-    ghost use Rattle.cg_octal.specs.Codes.{OctalHeap};
+    ghost use Rattle.cg_octal.specs.Codes.{OctalHeap, IsOctalHeap};
     ghost use Rattle.cg_octal.specs.HeapCode.{octal_code};
 
     ghost Value = { OctalHeap };
@@ -21,13 +22,13 @@ impl Model for Octal {
 
     ghost view = { λ o. record { digits = o.digits.items; heap = o.heap } };
 
-    ghost invariant = { λ o. o.heap ≤ 1000 };
+    ghost invariant = { λ o. IsOctalHeap (record { digits = o.digits.items; heap = o.heap }) };
 }
 
 impl Octal {
     /// The game of these digits, and this heap of it.
     pub(crate) fn of(digits: Vec<u8>, heap: u64) -> Octal
-        requires { heap ≤ 1000 }
+        requires { IsOctalHeap (record { digits = digits.items; heap = heap }) }
         ensures digits { result.digits ≡ digits.items }
         ensures heap { result.heap ≡ heap }
     {
@@ -36,7 +37,10 @@ impl Octal {
 
     /// The digits; the first is that of removing one token.
     pub fn digits(&self) -> &[u8]
-        ensures { result.now ≡ self.now.digits }
+        ensures value { result.now ≡ self.now.digits }
+        ensures octal { AreOctal result.now }
+        ensures some { 1 ≤ length result.now }
+        ensures few { length result.now ≤ 16 }
     {
         &self.digits
     }

@@ -6,6 +6,8 @@
 #[cfg(test)]
 mod adapters;
 #[cfg(test)]
+mod heirs;
+#[cfg(test)]
 mod keys;
 #[cfg(test)]
 mod lines;

@@ -1,5 +1,5 @@
-//! Lines that claim numbers on a table in which every key has the same home, so that each claim passes all the cells
-//! that were claimed before it.
+//! Lines that claim numbers: on a table in which every key has the same home, so that each claim passes all the cells
+//! that were claimed before it, and on one in which their homes are apart.
 ghost use Rattle.std.specs.Prelude.{◌≡◌, ◌<◌, ◌≤◌, pos, Some};
 ghost use Rattle.cg_cells.specs.declared.key.KeyParts.TheVariants.{Number};
 ghost use Rattle.cg_cells.specs.Layout.{word_of};
@@ -8,8 +8,9 @@ ghost use Rattle.cg_cells.specs.Store.{Spends};
 ghost use Rattle.cg_thread_rows.specs.Homes.{one_home_meaning, one_home_lawful};
 
 use cg_cells::{CellStore, Facts, Id, Key, KeyParts};
-use cg_nodes::Thing;
-use cg_pool::Job;
+use cg_dyadic::Dyadic;
+use cg_nodes::{GameFacts, Handle, NoBoards, Thing, number};
+use cg_pool::{CachingJob, Job};
 use cg_shared::Desk;
 use std::alloc::{AllocError, Global};
 
@@ -66,7 +67,7 @@ pub(crate) struct Claims {
     pub without_memory: Option<u64>,
 }
 
-impl Job<OneHome> for Claims {
+impl CachingJob<OneHome> for Claims {
     type Answer = Claimed;
 
     type Cache = u64;
@@ -102,4 +103,32 @@ impl Job<OneHome> for Claims {
     ghost stays = { λ job n claimed f g grows h. h };
 
     ghost holding = { λ cache f g grows h. h };
+}
+
+/// Each line makes the number that it has, and holds nothing from line to line.
+#[derive(Drop)]
+pub(crate) struct Numbers;
+
+impl Job<GameFacts<NoBoards>> for Numbers {
+    type Answer = Handle;
+
+    ghost count = { λ _. 4096 };
+
+    ghost needs = { λ _. 3 };
+
+    ghost good = { λ _ n handle known. Unit {0} };
+
+    fn work(
+        &self,
+        _alloc: Global,
+        desk: &mut Desk<'_, GameFacts<NoBoards>>,
+        index: u64,
+    ) -> Result<Handle, AllocError> {
+        match Dyadic::make(i128::from(index), 0) {
+            Ok(own) => Ok(number(desk, own)),
+            Err(_) => Err(AllocError),
+        }
+    }
+
+    ghost stays = { λ job n handle f g grows h. h };
 }

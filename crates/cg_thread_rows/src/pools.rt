@@ -1,10 +1,10 @@
 //! Lines answered by several workers.
-ghost use Rattle.std.specs.Prelude.{◌≤◌, length};
+ghost use Rattle.std.specs.Prelude.{◌≤◌};
 
-use crate::numbers::{Claims, four_numbers};
+use crate::numbers::{Claims, Numbers, four_numbers};
 use crate::watch::{TURNS, Watch};
 use cg_cells::CellStore;
-use cg_pool::{Evaluated, NoGate, evaluate};
+use cg_pool::{Evaluated, NoGate, evaluate, evaluate_by_weight};
 use cg_shared::Desk;
 use std::alloc::{AllocError, Global};
 use std::test::Fail;
@@ -18,23 +18,23 @@ const WITHOUT_MEMORY: Claims = Claims {
     without_memory: Some(5),
 };
 
-/// Whether workers get the cells of its numbers for each of the lines that have these weights.
+/// Whether workers get the cells of its numbers for each of so many lines.
 fn lines_get_their_cells<R: Threads + Sync>(
     rt: &R,
     alloc: Global,
-    weights: &[u64],
+    lines: u64,
     workers: u64,
 ) -> Result<bool, AllocError>
-    requires lines { (1 ≤ length weights.now) × (length weights.now ≤ 64) }
+    requires lines { (1 ≤ lines) × (lines ≤ 64) }
     requires workers { (1 ≤ workers) × (workers ≤ 64) }
 {
     let Evaluated {
         answers,
         cells,
         pass,
-    } = evaluate(rt, alloc, weights, 8, workers, &CLAIMS, &NoGate)?;
+    } = evaluate(rt, alloc, lines, 8, workers, &CLAIMS, &NoGate)?;
     let mut desk = Desk::new(&cells, pass);
-    let mut all = answers.len() == weights.len();
+    let mut all = answers.len() as u64 == lines;
     for line in 0..answers.len() {
         if desk.spare() < 4 {
             return Ok(false);
@@ -48,11 +48,24 @@ fn lines_get_their_cells<R: Threads + Sync>(
 #[test]
 fn workers_answer_each_line_once(rt: HostRuntime) -> Result<(), Fail> {
     let alloc = rt.alloc();
-    assert!(rt; lines_get_their_cells(&rt, alloc, &[0; 2], 1)?);
-    assert!(rt; lines_get_their_cells(&rt, alloc, &[0; 2], 2)?);
-    assert!(rt; lines_get_their_cells(&rt, alloc, &[0; 40], 1)?);
-    assert!(rt; lines_get_their_cells(&rt, alloc, &[0; 40], 2)?);
-    assert!(rt; lines_get_their_cells(&rt, alloc, &[0; 64], 64)?);
+    assert!(rt; lines_get_their_cells(&rt, alloc, 2, 1)?);
+    assert!(rt; lines_get_their_cells(&rt, alloc, 2, 2)?);
+    assert!(rt; lines_get_their_cells(&rt, alloc, 40, 1)?);
+    assert!(rt; lines_get_their_cells(&rt, alloc, 40, 2)?);
+    assert!(rt; lines_get_their_cells(&rt, alloc, 64, 64)?);
+    Ok(())
+}
+
+/// One worker and two give the same two handles, since the homes of the two numbers are apart.
+#[test]
+fn workers_give_the_same_handles(rt: HostRuntime) -> Result<(), Fail> {
+    for workers in [1, 2] {
+        let made = evaluate(&rt, rt.alloc(), 2, 4, workers, &Numbers, &NoGate)?;
+        let (Some(first), Some(second)) = (made.answers.first(), made.answers.get(1)) else {
+            return Err("no answer")?;
+        };
+        assert_eq!(rt; [first.id().number(), second.id().number()], [0, 5]);
+    }
     Ok(())
 }
 
@@ -60,7 +73,7 @@ fn workers_answer_each_line_once(rt: HostRuntime) -> Result<(), Fail> {
 #[test]
 fn keys_with_one_home_have_cells_of_their_own(rt: HostRuntime) -> Result<(), Fail> {
     let gate = Watch::new(rt.alloc(), 2, TURNS)?;
-    let made = evaluate(&rt, rt.alloc(), &[0; 2], 4, 2, &CLAIMS, &gate)?;
+    let made = evaluate(&rt, rt.alloc(), 2, 4, 2, &CLAIMS, &gate)?;
     assert!(rt; gate.has_seen(2, 1));
     let (Some(first), Some(second)) = (made.answers.first(), made.answers.get(1)) else {
         return Err("no answer")?;
@@ -78,10 +91,10 @@ fn keys_with_one_home_have_cells_of_their_own(rt: HostRuntime) -> Result<(), Fai
 #[test]
 fn a_worker_without_memory_ends_alone(rt: HostRuntime) -> Result<(), Fail> {
     let gate = Watch::new(rt.alloc(), 8, 0)?;
-    assert!(rt; evaluate(&rt, rt.alloc(), &[0; 8], 4, 1, &WITHOUT_MEMORY, &gate).is_err());
+    assert!(rt; evaluate(&rt, rt.alloc(), 8, 4, 1, &WITHOUT_MEMORY, &gate).is_err());
     assert!(rt; gate.has_seen(6, 0));
     let gate = Watch::new(rt.alloc(), 8, 0)?;
-    assert!(rt; evaluate(&rt, rt.alloc(), &[0; 8], 4, 4, &WITHOUT_MEMORY, &gate).is_err());
+    assert!(rt; evaluate(&rt, rt.alloc(), 8, 4, 4, &WITHOUT_MEMORY, &gate).is_err());
     assert!(rt; gate.has_seen(8, 0));
     Ok(())
 }
@@ -89,7 +102,7 @@ fn a_worker_without_memory_ends_alone(rt: HostRuntime) -> Result<(), Fail> {
 /// A worker holds what the line before left: here how many it has answered.
 #[test]
 fn lines_of_greater_weight_come_first(rt: HostRuntime) -> Result<(), Fail> {
-    let made = evaluate(&rt, rt.alloc(), &[5, 0, 7, 5], 4, 1, &CLAIMS, &NoGate)?;
+    let made = evaluate_by_weight(&rt, rt.alloc(), &[5, 0, 7, 5], 4, 1, &CLAIMS, &NoGate)?;
     for (line, earlier) in [1, 3, 0, 2].into_iter().enumerate() {
         let answer = made.answers.get(line).ok_or("no answer")?;
         assert_eq!(rt; answer.earlier, earlier);

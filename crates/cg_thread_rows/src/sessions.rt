@@ -8,7 +8,7 @@ ghost use Rattle.cg_thread_rows.specs.Kept.{HaveGames};
 use crate::watch::{TURNS, Watch};
 use cg_canon::equal;
 use cg_io::{MemorySink, SteadySource};
-use cg_nodes::Handle;
+use cg_nodes::{Handle, Kind, kind};
 use cg_pool::{Evaluated, Gate, NoGate};
 use cg_session::{Kept, Status, run};
 use cg_shared::Desk;
@@ -78,8 +78,9 @@ fn handle_at(kept: &Kept, place: usize) -> Option<Handle>
     kept.answers.get(place)?.handle
 }
 
-/// Whether the game of the first answer is equal to those of the fifth and of the second.
-fn equalities(kept: Kept) -> Option<(bool, bool)>
+/// Whether the game of the first answer is equal to those of the fifth and of the second, and whether the table says
+/// that it is no number.
+fn equalities(kept: Kept) -> Option<(bool, bool, bool)>
     requires own { IsPassOf kept.cells kept.pass }
     requires games { HaveGames kept.answers.items (pass_state kept.pass) }
 {
@@ -91,8 +92,11 @@ fn equalities(kept: Kept) -> Option<(bool, bool)>
         cells,
         pass,
     } = kept;
-    let desk = Desk::new(&cells, pass);
-    Some((equal(&desk, first, fifth), equal(&desk, first, second)))
+    let mut desk = Desk::new(&cells, pass);
+    let is_fifth = equal(&desk, first, fifth);
+    let is_second = equal(&desk, first, second);
+    let is_game = matches!(kind(&mut desk, first), Kind::Game);
+    Some((is_fifth, is_second, is_game))
 }
 
 /// Of eight sheets the first line and the fifth that get an answer are one line, and the second is another.
@@ -101,7 +105,7 @@ fn equal_games_have_one_handle(rt: HostRuntime) -> Result<(), Fail> {
     let Some(kept) = kept_of_sheets(&rt, rt.alloc())? else {
         return Err("nothing is kept")?;
     };
-    assert_eq!(rt; equalities(kept), Some((true, false)));
+    assert_eq!(rt; equalities(kept), Some((true, false, true)));
     Ok(())
 }
 
