@@ -1,0 +1,93 @@
+// What is shown: a history of positions, and what the program answered about the present one.
+import { readPart, textOf } from './games.js';
+
+export const state = {
+  history: [], at: -1, mode: 'draw', brush: '', picked: null, effort: 0,
+  answer: null, moves: null, reasons: null, problem: null, game: null,
+};
+const heard = { position: [], answer: [], view: [] };
+
+export function when(what, call) {
+  heard[what].push(call);
+}
+
+export function changed(what) {
+  for (const call of heard[what]) call();
+}
+
+export function now() {
+  return state.history[state.at];
+}
+
+export function parts() {
+  return now().parts.map(readPart);
+}
+
+// Shows a position: by a move, or drawn or opened. A stroke of the brush is one step.
+export function show(texts, { move = null, places = null, stroke = null } = {}) {
+  const before = now();
+  const kept = places || (before ? texts.map((_, at) => before.places[at] || null) : texts.map(() => null));
+  const entry = { parts: texts, places: kept, move, stroke };
+  if (stroke !== null && before && before.stroke === stroke) state.history[state.at] = entry;
+  else {
+    state.history = [...state.history.slice(0, state.at + 1), entry].slice(-500);
+    state.at = state.history.length - 1;
+  }
+  refresh();
+}
+
+export function setPart(at, part, how = {}) {
+  const texts = now().parts.slice();
+  texts[at] = textOf(part);
+  show(texts, how);
+}
+
+export function go(at) {
+  if (at < 0 || at >= state.history.length || at === state.at) return;
+  state.at = at;
+  refresh();
+}
+
+function refresh() {
+  Object.assign(state, { answer: null, moves: null, reasons: null, problem: null, picked: null, effort: 0 });
+  changed('position');
+}
+
+export function look(changes) {
+  Object.assign(state, changes);
+  changed('view');
+}
+
+export function makeMove(move) {
+  const before = now();
+  const places = before.places.slice();
+  places.splice(move.part, 1, ...move.leaves.map(() => before.places[move.part] || null));
+  const { player, name, part } = move;
+  show(move.after, { places, move: { player, name, part, many: before.parts.length > 1 } });
+}
+
+export function toast(text) {
+  const shown = document.getElementById('toast');
+  shown.textContent = text;
+  shown.hidden = false;
+  clearTimeout(toast.clock);
+  toast.clock = setTimeout(() => { shown.hidden = true; }, 3500);
+}
+
+// An element with attributes, what it is called by screen readers, and what happens on a click.
+export function element(name, attributes = {}, ...inside) {
+  const made = document.createElement(name);
+  for (const [key, value] of Object.entries(attributes)) {
+    if (key.startsWith('on')) made.addEventListener(key.slice(2), value);
+    else if (value === true) made.setAttribute(key, '');
+    else if (value !== false && value !== null && value !== undefined) made.setAttribute(key, value);
+  }
+  made.append(...inside.filter((one) => one !== null && one !== undefined));
+  return made;
+}
+
+export function html(name, attributes, text) {
+  const made = element(name, attributes);
+  made.innerHTML = text;
+  return made;
+}
