@@ -21,6 +21,8 @@ from cgcalc.boards import (
     strip,
     toads,
 )
+from cgcalc.cache import Cache
+from cgcalc.definitions import Definition
 from cgcalc.errors import Refused, WrongCall
 from cgcalc.game import Game, default_session, game, use_session
 from cgcalc.program import CgError, ProgramFailed, ProgramMissing, find_program
@@ -37,8 +39,9 @@ from cgcalc.replies import (
     Temperature,
     read_reply,
 )
-from cgcalc.session import Definition, Session
+from cgcalc.session import Session
 from cgcalc.stream import Replies
+from cgcalc.table import Table
 from cgcalc.thermographs import Corner, Thermograph, Walls
 from cgcalc.typed import Comparison
 from cgcalc.values import Value
@@ -46,6 +49,7 @@ from cgcalc.version import VERSION as __version__
 
 __all__ = [
     "Board",
+    "Cache",
     "CgError",
     "Check",
     "Comparison",
@@ -65,6 +69,7 @@ __all__ = [
     "Reply",
     "Session",
     "Stops",
+    "Table",
     "Temperature",
     "Thermograph",
     "Value",

@@ -7,61 +7,28 @@ and what is full with more, up to the share that each of them has.
 from __future__ import annotations
 
 import sys
+from collections import Counter
 from concurrent.futures import FIRST_COMPLETED, Executor, Future, wait
 from dataclasses import dataclass, replace
 from typing import Callable, Generator, Optional, Sequence, Union
 
+from cgcalc.batch_limits import SMALL_SHARES, Limits
+from cgcalc.cache import Cache, Keys
 from cgcalc.limits import MOST_BYTES, MOST_LINES, MOST_WORKERS
 from cgcalc.lines import cut_output, encoded, session_bytes, table_of
 from cgcalc.program import CgError
 from cgcalc.replies import Failed
-from cgcalc.runs import Ended, Job, Runs, Threads, run
+from cgcalc.runs import RunEnd, Job, Runs, Threads, run
 
 FULL = "! full"
-SMALL_SHARES = {1_024: 3, 8_192: 1, 65_536: 1, 524_288: 1, 4_194_304: 1}
-"""The shares that are tried first, with the quarters of the lines that make each worth its time."""
-FEWEST_LINES = 16
-"""A run isn't cut to fewer lines than these only to keep all processors busy."""
+FIRST_LINES = 1_024
+"""A run has no more lines than these, so that replies come soon, until a few runs were made."""
 FEWEST_SEEN = 64
 """How many lines are asked with a share before it is judged whether it is worth its time."""
-START_BYTES = 32
-"""What a cell takes for a moment at the start, half of it for good."""
 MOST_TRIES = 3
 """How often a run is sent that an executor loses."""
 
 Text = Union[str, Failed]
-
-
-@dataclass(frozen=True)
-class Limits:
-    """What the lines of a batch may take, and what runs them."""
-
-    share: int
-    positions: int
-    cells: int
-    processes: int
-    program: Optional[str]
-    timeout: Optional[float]
-    memory: Optional[int]
-    executor: Optional[Executor]
-
-    def shares(self, lines: int, before: int) -> list[int]:
-        """The shares that so many lines, with others before them, are asked with in turn."""
-        if lines == 1 or lines + before <= self.table // self.share:
-            return [self.share]
-        return [share for share in SMALL_SHARES if 2 * share <= self.share] + [self.share]
-
-    @property
-    def table(self) -> int:
-        """The most cells of a run that has several lines."""
-        if self.memory is None:
-            return self.cells
-        return min(self.cells, self.memory // 2 // START_BYTES)
-
-    @property
-    def fewest(self) -> int:
-        """The fewest lines that are worth a run: on several machines each has one worker."""
-        return FEWEST_LINES if self.executor is None else 1
 
 
 @dataclass(frozen=True)
@@ -79,47 +46,79 @@ class Batch:
     """Lines on their way to the program and back.
 
     `prefix` gives the lines that have to stand before some lines, and get an answer too: the
-    definitions that they need.
+    definitions that they need. What the `cache` has isn't asked, and what is asked it keeps.
     """
 
     def __init__(
-        self, lines: Sequence[str], prefix: Callable[[Sequence[str]], list[str]], limits: Limits
+        self,
+        lines: Sequence[str],
+        prefix: Callable[[Sequence[str]], list[str]],
+        limits: Limits,
+        cache: Optional[Cache] = None,
     ) -> None:
-        self._lines = lines
+        places: dict[str, int] = {}
+        self._places = [places.setdefault(line, len(places)) for line in lines]
+        self._uses = Counter(self._places) if len(places) < len(lines) else None
+        self._lines = list(places)
         self._prefix = prefix
         self._limits = limits
-        before = prefix(lines)
+        before = prefix(self._lines)
         self._longest_prefix = len(before)
         self._space = MOST_BYTES - len(session_bytes(before))
-        self._shares = limits.shares(len(lines), len(before))
+        self._shares = limits.shares(len(self._lines) + len(before))
         self._waiting: list[dict[int, None]] = [{} for _ in self._shares]
         self._alone: list[tuple[int, int]] = []
         self._seen = [0] * len(self._shares)
         self._full = [0] * len(self._shares)
+        self._cache = cache
+        self._keys: list[bytes] = []
+        self._order: Sequence[int] = range(len(self._lines))
         self._fresh = 0
         self._next = 0
         self._texts: dict[int, Text] = {}
-        self._flying: dict[Future[Ended], Piece] = {}
+        self._flying: dict[Future[RunEnd], Piece] = {}
         self._runs = Runs()
 
     def texts(self) -> Generator[Text, None, None]:
         """What the program writes to each line, in their order, or how a line's run failed."""
-        if not self._lines:
+        if not self._places:
             return
-        executor = self._limits.executor or Threads(self._limits.processes)
+        self._look_up()
+        self._runs = Runs(self._limits.executor is not None)
+        executor = self._limits.executor or Threads(self._limits.processes + 1)
         try:
-            while self._next < len(self._lines):
+            for self._next in self._places:
                 while self._next not in self._texts:
                     self._send(executor)
                     self._take(executor)
-                self._next += 1
-                yield self._texts.pop(self._next - 1)
+                yield self._given(self._next)
         finally:
             if not sys.is_finalizing():  # else all runs are stopped, and no thread goes on
                 self._leave(executor)
 
+    def _look_up(self) -> None:
+        """Takes what the cache has, and leaves the rest to be asked."""
+        limits = self._limits
+        if self._cache is None or limits.program is None:
+            return
+        keys = Keys(limits.program, limits.share, limits.positions)
+        self._keys = [keys.of(session_bytes([*self._prefix([line]), line])) for line in self._lines]
+        found = self._cache.find(self._keys)
+        self._order = [at for at, key in enumerate(self._keys) if key not in found]
+        self._texts = {at: found[key] for at, key in enumerate(self._keys) if key in found}
+
+    def _given(self, number: int) -> Text:
+        """The text of a line, which is kept only as long as an equal line comes."""
+        if self._uses is not None:
+            self._uses[number] -= 1
+            if self._uses[number]:
+                return self._texts[number]
+        return self._texts.pop(number)
+
     def _leave(self, executor: Executor) -> None:
-        """Stops what runs."""
+        """Stops what runs; in a process that was forked meanwhile nothing does."""
+        if not self._runs.is_own:
+            return
         for future in self._flying:
             future.cancel()
         self._runs.stop()
@@ -127,12 +126,19 @@ class Batch:
             executor.shutdown()
 
     def _send(self, executor: Executor) -> None:
-        """Sends runs until there are twice as many as run at once, or no line is left to send."""
-        while len(self._flying) < 2 * self._limits.processes:
+        """Sends runs until as many are there as may be, or no line is left to send."""
+        if not self._runs.is_own:
+            raise CgError("the process that asked for these replies gets them: ask anew in a fork")
+        while self._busy <= self._limits.most_busy:
             piece = self._piece()
             if piece is None:
                 return
             self._submit(executor, piece)
+
+    @property
+    def _busy(self) -> int:
+        """How many workers the runs have that are under way."""
+        return sum(piece.job.workers for piece in self._flying.values())
 
     def _submit(self, executor: Executor, piece: Piece) -> None:
         try:
@@ -157,22 +163,27 @@ class Batch:
             else:
                 self._read(piece, answered)
 
-    def _read(self, piece: Piece, ended: Ended) -> None:
+    def _read(self, piece: Piece, ended: RunEnd) -> None:
         """Takes the answers of a run. Where it failed its lines are asked again one by one."""
         if ended.status not in (0, 1):
             if len(piece.lines) == 1:
                 self._texts[piece.lines[0]] = Failed(ended.status, ended.told)
             self._alone += [(piece.step, line) for line in piece.lines if len(piece.lines) > 1]
             return
-        texts = cut_output(ended.written, piece.before + len(piece.lines))[piece.before :]
+        count = piece.before + len(piece.lines)
+        texts = cut_output(ended.written, count, ended.told)[piece.before :]
         last = len(self._shares) - 1
         self._seen[piece.step] += len(texts)
+        answered = {}
         for line, text in zip(piece.lines, texts):
             if text == FULL and piece.step < last:
                 self._full[piece.step] += 1
                 self._waiting[self._from(piece.step + 1)][line] = None
             else:
-                self._texts[line] = text
+                answered[line] = text
+        self._texts.update(answered)
+        if self._keys and self._cache is not None:
+            self._cache.keep((self._keys[line], text) for line, text in answered.items())
 
     def _from(self, step: int) -> int:
         """The step, or the next one whose share isn't too small for most lines."""
@@ -188,15 +199,17 @@ class Batch:
         if self._alone:
             step, line = self._alone.pop(0)
             return self._made(step, [line], 1)
-        for step in reversed(range(len(self._shares))):
-            waiting = self._waiting[step]
-            if len(waiting) >= self._room(step) or self._next in waiting:
+        for step, waiting in enumerate(self._waiting):
+            if self._next in waiting:
                 return self._drawn(step)
-        if self._fresh < len(self._lines) and self._is_near():
+        for step in reversed(range(len(self._shares))):
+            if len(self._waiting[step]) >= self._room(step):
+                return self._drawn(step)
+        if self._fresh < len(self._order) and self._is_near():
             if self._is_judged() or not self._flying:
                 return self._begun()
             return None
-        if len(self._flying) < self._limits.processes:
+        if self._busy < self._limits.processes:
             for step, waiting in enumerate(self._waiting):
                 if waiting:
                     return self._drawn(step)
@@ -208,16 +221,18 @@ class Batch:
 
     def _is_near(self) -> bool:
         """Whether few lines are begun beyond the next one whose answer is wanted."""
-        return self._fresh - self._next < 4 * self._limits.processes * self._room(0)
+        begun = self._order[self._fresh] - self._next
+        return begun < 4 * self._limits.at_once * self._room(0)
 
     def _room(self, step: int) -> int:
         """How many lines a run has at most."""
-        lines = min(self._limits.table // self._shares[step], MOST_LINES)
-        return max(lines - self._longest_prefix, 1)
+        lines = min(self._limits.table // self._shares[step], MOST_LINES) - self._longest_prefix
+        begun = self._fresh >= 4 * FIRST_LINES * self._limits.at_once
+        return max(min(lines, MOST_LINES if begun else FIRST_LINES), 1)
 
     def _size(self, step: int, left: int) -> int:
         """How many of the lines that are left the next run has."""
-        idle = max(self._limits.processes - len(self._flying), 1)
+        idle = max((self._limits.processes - self._busy) // self._limits.workers, 1)
         return min(self._room(step), max(-(-left // idle), self._limits.fewest))
 
     def _drawn(self, step: int) -> Piece:
@@ -231,9 +246,9 @@ class Batch:
 
     def _begun(self) -> Piece:
         """A run of lines that weren't asked yet."""
-        step, left = self._from(0), len(self._lines) - self._fresh
+        step, left = self._from(0), len(self._order) - self._fresh
         size = self._size(step, left) if self._is_judged() else FEWEST_SEEN
-        lines = self._fitting(range(self._fresh, len(self._lines)), size)
+        lines = self._fitting(self._order[self._fresh :], size)
         self._fresh += len(lines)
         return self._made(step, lines, left)
 
@@ -252,13 +267,13 @@ class Batch:
         texts = [self._lines[line] for line in lines]
         before = self._prefix(texts)
         runs = len(self._flying) + -(-left // len(lines))
-        workers = 1 if limits.executor else min(max(limits.processes // runs, 1), MOST_WORKERS)
+        workers = min(max(limits.processes // runs, limits.workers), len(lines), MOST_WORKERS)
         seconds = limits.timeout and limits.timeout * len(lines).bit_length()
         job = Job(
             session_bytes([*before, *texts]),
             table_of(self._shares[step], len(before) + len(lines)),
             limits.positions,
-            workers,
+            workers if limits.executor is None else 1,
             limits.program,
             seconds,
             limits.memory,

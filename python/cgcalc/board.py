@@ -8,6 +8,7 @@ from typing import Optional
 from cgcalc.board_pictures import board_picture
 from cgcalc.errors import WrongCall
 from cgcalc.games import GAMES
+from cgcalc.moves import Move, moves_of
 from cgcalc.operands import Operand
 
 TEXT = re.compile(r"[\x20\x21\x23-\x7e]*")
@@ -46,6 +47,17 @@ class Board(Operand):
         if self.tokens is not None:
             parts.append(str(self.tokens))
         return f"{self.game}({','.join(parts)})"
+
+    def moves(self, player: str) -> list[Move]:
+        """The moves of `"L"` or `"R"` in the program's order, each with a name and what it leaves.
+
+        A cell is named by the letter of its column and the number of its row, the first row of the
+        text being 1.
+
+        >>> [(move.name, move.expression) for move in Board("Domineering", ("..|..",)).moves("L")]
+        [('a1-a2', 'Domineering("#.|#.")'), ('b1-b2', 'Domineering(".#|.#")')]
+        """
+        return moves_of(self, player)
 
     def svg(self) -> str:
         """A picture of the position in SVG."""

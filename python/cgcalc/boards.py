@@ -5,6 +5,7 @@ from typing import Iterable, Optional, Union
 
 from cgcalc.board import Board
 from cgcalc.errors import WrongCall
+from cgcalc.exact import whole_number
 from cgcalc.game import Game
 from cgcalc.session import Session
 
@@ -93,9 +94,10 @@ def octal(code: str, tokens: int, *, session: Optional[Session] = None) -> Game:
     >>> octal("0.77", 9).value
     Value(name='*4')
     """
-    if not isinstance(tokens, int) or not 0 <= tokens < 10**30:
+    heap = whole_number(tokens)
+    if heap is None or not 0 <= heap < 10**30:
         raise WrongCall(f"the tokens of a heap are a number such as 9, not {tokens!r}")
-    return Game(Board("Octal", (code,), int(tokens)), session=session)
+    return Game(Board("Octal", (code,), heap), session=session)
 
 
 def _game(name: str, *texts: str, session: Optional[Session]) -> Game:
@@ -107,6 +109,10 @@ def _joined(mark: str, parts: Rows) -> str:
     if isinstance(parts, str):
         parts = [line.strip() for line in parts.strip().split("\n")] if "\n" in parts else [parts]
     try:
-        return mark.join(parts)
+        texts = list(parts)
     except TypeError:
         raise WrongCall(f"{parts!r} is neither a text nor a list of texts") from None
+    for number, text in enumerate(texts):
+        if not isinstance(text, str):
+            raise WrongCall(f"[{number}] of a list of texts is none: {text!r}")
+    return mark.join(texts)

@@ -9,23 +9,24 @@ from typing import Optional, Sequence
 from cgcalc.board import read_board
 from cgcalc.board_pictures import board_picture
 from cgcalc.errors import Refused
+from cgcalc.files import write_whole
 from cgcalc.game import Game
-from cgcalc.limits import SHELL_SHARE
 from cgcalc.pictures import thermograph_picture
 from cgcalc.program import CgError, ProgramFailed
 from cgcalc.session import Session
 from cgcalc.svg import Picture, side_by_side
 from cgcalc.tool import (
     BAD_USE,
+    PIPE_CLOSED,
     REFUSED,
     STOPPED,
     WRITE_FAILED,
     BadUse,
     Words,
     end_by_signals,
+    status_of,
     tell,
     write_output,
-    write_whole,
 )
 from cgcalc.version import add_version
 
@@ -46,10 +47,12 @@ def main(words: Optional[Sequence[str]] = None) -> int:
         return REFUSED
     except ProgramFailed as failed:
         tell(COMMAND, str(failed))
-        return failed.status if failed.status > 0 else 128 - failed.status
+        return status_of(failed.status)
     except (BadUse, CgError, ValueError) as error:
         tell(COMMAND, str(error))
         return BAD_USE
+    except BrokenPipeError:
+        return PIPE_CLOSED
     except OSError as error:
         tell(COMMAND, f"the picture can't be written: {error.strerror}")
         return WRITE_FAILED
@@ -73,7 +76,8 @@ def read_words(words: Optional[Sequence[str]]) -> argparse.Namespace:
     )
     reader.add_argument("--untitled", action="store_true", help="no expression above the picture")
     add_version(reader)
-    reader.add_limits(SHELL_SHARE)
+    reader.add_limits()
+    reader.add_runs()
     return reader.parse_args(words)
 
 
@@ -83,7 +87,13 @@ def pictures_of(options: argparse.Namespace) -> list[Picture]:
         raise BadUse(f"--height is a number from {HEIGHTS[0]} to {HEIGHTS[-1]}")
     if options.board:
         return [picture_of_board(expression) for expression in options.expressions]
-    session = Session(share=options.share, positions=options.positions)
+    session = Session(
+        share=options.share,
+        positions=options.positions,
+        timeout=options.timeout,
+        memory=options.memory,
+        cache=options.cache,
+    )
     pictures = []
     for expression in options.expressions:
         thermograph = Game(expression, session=session).thermograph
@@ -106,7 +116,7 @@ def write(text: str, output: Optional[Path]) -> None:
     if output is None:
         write_output(text)
     else:
-        write_whole(output, text)
+        write_whole(output, text.encode(errors="surrogateescape"))
 
 
 if __name__ == "__main__":

@@ -9,14 +9,17 @@ import sys
 from pathlib import Path
 from typing import Optional, Sequence
 
+from cgcalc.asked import check_question
+from cgcalc.definitions import BINDS_NOTHING, Definition
 from cgcalc.forms import FORMS
-from cgcalc.kept import Kept
-from cgcalc.limits import CELLS, SHARE
+from cgcalc.files import is_special
+from cgcalc.limits import CELLS
+from cgcalc.part_file import PartFile
 from cgcalc.program import CgError, ProgramFailed
 from cgcalc.questions import Questions, questions_of, read_boards
 from cgcalc.refusals import Refusal
 from cgcalc.replies import Failed
-from cgcalc.session import BINDS_NOTHING, Definition, Session, check_question
+from cgcalc.session import Session
 from cgcalc.sinks import FiledTable, PrintedTable, Sink
 from cgcalc.table import Table
 from cgcalc.tool import (
@@ -44,7 +47,7 @@ def main(words: Optional[Sequence[str]] = None) -> int:
         questions = asked(options)
         session = session_of(options, questions)
         sink = sink_of(options, questions)
-        return make(sink, session, options.keep_going)
+        return fill(sink, session, options)
     except CgError as bad:
         tell(COMMAND, str(bad))
         return BAD_USE
@@ -81,10 +84,12 @@ def read_words(words: Optional[Sequence[str]]) -> argparse.Namespace:
     add("--define", metavar="DEFINITION", action="append", default=[], help=named)
     add("--output", metavar="FILE", help="write to FILE, by way of FILE.part")
     add("--resume", metavar="FILE", help="write to FILE, and go on from FILE.part if it is there")
+    again = "with --resume: ask the questions again that failed or took too long"
+    add("--retry-failed", action="store_true", help=again)
     add("--keep-going", action="store_true", help="go on where a question fails or takes too long")
     add("--format", choices=FORMS, help="the form of the table")
     add("--processes", type=int, metavar="N", help="runs of cg at once (one for each processor)")
-    reader.add_limits(SHARE)
+    reader.add_limits()
     reader.add_runs()
     cells = f"the most cells of a run's table ({CELLS})"
     add("--cells", type=int, default=CELLS, metavar="C", help=cells)
@@ -112,6 +117,7 @@ def session_of(options: argparse.Namespace, questions: Questions) -> Session:
         processes=options.processes,
         timeout=options.timeout,
         memory=options.memory,
+        cache=options.cache,
     )
     for line in options.define:
         define(session, line)
@@ -123,7 +129,7 @@ def define(session: Session, line: str) -> None:
     definition = Definition.read(line)
     if definition is None:
         raise BadUse(f"--define is a name, := and a game, not {line!r}")
-    reply = session.define(definition.name, definition.text)
+    reply = session.bind(definition)
     if isinstance(reply, Refusal) and reply.kind in BINDS_NOTHING:
         raise BadUse(f"{definition.line} is refused by {reply}: {reply.explain(definition.line)}")
 
@@ -133,6 +139,8 @@ def sink_of(options: argparse.Namespace, questions: Questions) -> Sink:
     resumes = options.resume is not None
     if resumes and options.output is not None:
         raise BadUse("give either --output or --resume")
+    if options.retry_failed and not resumes:
+        raise BadUse("--retry-failed goes with --resume")
     one = len(questions.templates) == 1
     if options.format == "grid" and not (one and questions.headings == ["rows", "columns"]):
         raise BadUse("--format grid needs --rows and --columns, and one question")
@@ -143,15 +151,22 @@ def sink_of(options: argparse.Namespace, questions: Questions) -> Sink:
         return PrintedTable(table, form)
     if not name or Path(name).is_dir():
         raise BadUse(f"{name!r} is no name of a file")
+    if is_special(Path(name)):
+        if resumes:
+            raise BadUse(f"{name} is no file to go on from")
+        return FiledTable(table, form, Path(name), None, False)
     limits = [f"--share {options.share} --positions {options.positions}"]
     limits += [f"--define {line!r}" for line in options.define]
-    return FiledTable(table, form, Path(name), Kept(Path(name), " ".join(limits)), resumes)
+    return FiledTable(table, form, Path(name), PartFile(Path(name), " ".join(limits)), resumes)
 
 
-def make(sink: Sink, session: Session, keeps_going: bool) -> int:
+def fill(sink: Sink, session: Session, options: argparse.Namespace) -> int:
     """Asks what is left to ask, writes the table, and gives the status."""
     try:
-        ask(sink, session, keeps_going)
+        sink.begin()
+        if options.retry_failed:
+            ask_again(sink, session)
+        ask(sink, session, options.keep_going)
     except KeyboardInterrupt:
         return stop(sink, "stopped", STOPPED)
     except SystemExit as ended:
@@ -162,9 +177,25 @@ def make(sink: Sink, session: Session, keeps_going: bool) -> int:
         return stop(sink, why, status_of(failed.status))
     except CgError as error:
         return stop(sink, str(error), BAD_USE)
-    sink.end()
+    except BrokenPipeError:
+        raise
+    except OSError as error:
+        return tell_stop(sink, f"writing failed: {error.strerror}", WRITE_FAILED)
+    return end(sink)
+
+
+def end(sink: Sink) -> int:
+    """Writes the table, all of which is asked, and gives the status."""
+    try:
+        sink.end()
+    except BrokenPipeError:
+        raise
+    except OSError as error:
+        return tell_stop(sink, f"writing failed: {error.strerror}", WRITE_FAILED)
     for explanation in sink.table.explanations():
         tell(COMMAND, explanation)
+    if sink.table.failed and isinstance(sink, FiledTable) and sink.part is not None:
+        tell(COMMAND, f"--resume {sink.file} --retry-failed asks again what failed")
     return status_at_end(sink.table)
 
 
@@ -178,7 +209,6 @@ def status_at_end(table: Table) -> int:
 def ask(sink: Sink, session: Session, keeps_going: bool) -> None:
     """Asks what is left to ask, and shows at a terminal how far the table is."""
     table = sink.table
-    sink.begin()
     show(table.progress())
     with session.replies([entry.question for entry in table.left]) as replies:
         for reply in replies:
@@ -190,6 +220,16 @@ def ask(sink: Sink, session: Session, keeps_going: bool) -> None:
     show("")
 
 
+def ask_again(sink: Sink, session: Session) -> None:
+    """Asks the questions again that failed in an earlier run."""
+    failed = sink.table.failed
+    questions = [sink.table.entries[number].question for number in failed]
+    with session.replies(questions) as replies:
+        for number, reply in zip(failed, replies):
+            if not isinstance(reply, Failed):
+                sink.mend(number, reply)
+
+
 def show(progress: str) -> None:
     """Shows a text in place of the last one, where standard error is a terminal."""
     if sys.stderr.isatty():
@@ -199,6 +239,11 @@ def show(progress: str) -> None:
 def stop(sink: Sink, why: str, status: int) -> int:
     """Leaves what there is where it is of use, says so, and gives the status."""
     show("")
-    way = sink.stop()
-    tell(COMMAND, f"{why}, after {sink.table.progress()} questions; {way}")
+    sink.stop()
+    return tell_stop(sink, why, status)
+
+
+def tell_stop(sink: Sink, why: str, status: int) -> int:
+    """Says why no more is asked, how far the table is and how it goes on, and gives the status."""
+    tell(COMMAND, f"{why}, after {sink.table.progress()} questions; {sink.way_on()}")
     return status

@@ -8,7 +8,7 @@ from cgcalc.games import FORMS, GAMES
 from cgcalc.help import COMMANDS, QUESTIONS, TOPICS
 
 DELIMITERS = " \t\r{}|,;()+-*^/.\""
-WITH_ARGUMENT = (":share", ":positions", ":help")
+WITH_ARGUMENT = (":share", ":positions", ":help", ":save", ":load")
 
 
 def fitting(before: str, begun: str, names: Iterable[str]) -> list[str]:

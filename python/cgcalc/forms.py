@@ -1,13 +1,11 @@
 """The forms of a table: which are written line by line, and what a line is in each."""
 from __future__ import annotations
 
-import csv
 import io
-import json
 from fractions import Fraction
-from html import escape
-from typing import Any, Callable, Optional, Sequence
+from typing import Any, Callable, Iterable, Optional, Sequence
 
+from cgcalc.latex import latex_of, plain_latex
 from cgcalc.refusals import Refusal
 from cgcalc.replies import (
     Check,
@@ -20,6 +18,7 @@ from cgcalc.replies import (
     Stops,
     Temperature,
 )
+from cgcalc.svg import escape
 from cgcalc.thermographs import Corner, Thermograph
 from cgcalc.values import Value
 
@@ -38,6 +37,8 @@ def csv_line(cells: Cells) -> str:
     >>> csv_line(["a", "{1,2|0}"])
     'a,"{1,2|0}"\\n'
     """
+    import csv  # here, as few need it and loading it takes time
+
     text = io.StringIO()
     csv.writer(text, lineterminator="\n").writerow(cells)
     return text.getvalue()
@@ -71,17 +72,41 @@ LINES: dict[str, tuple[Callable[[Cells], str], Callable[[Cells], str]]] = {
 }
 """The forms of which each line is written by itself: how the headings, and how the cells."""
 JSON_LINES = "jsonl"
-FORMS = [*LINES, JSON_LINES, "aligned", "grid"]
+FORMS = [*LINES, JSON_LINES, "aligned", "grid", "html", "latex"]
+FIRST_SHOWN, LAST_SHOWN = 50, 10
+"""How many rows a notebook shows of a long table, at its beginning and at its end."""
 
 
-def html_table(lines: Sequence[Cells]) -> str:
-    """A table for notebooks, whose first line are the headings."""
-    head, *rows = lines
-    text = "".join(f"<th>{escape(cell)}</th>" for cell in head)
-    text = f"<thead><tr>{text}</tr></thead>"
+def html_table(head: Cells, rows: Iterable[Cells]) -> str:
+    """A table in HTML."""
+    cells = "".join(f"<th>{escape(cell)}</th>" for cell in head)
+    lines = [f"<table><thead><tr>{cells}</tr></thead>"]
     for row in rows:
-        text += "<tr>" + "".join(f"<td>{escape(cell)}</td>" for cell in row) + "</tr>"
-    return f"<table>{text}</table>"
+        lines.append("<tr>" + "".join(f"<td>{escape(cell)}</td>" for cell in row) + "</tr>")
+    return "".join([*lines, "</table>"])
+
+
+def latex_table(head: Cells, rows: Iterable[Cells]) -> str:
+    r"""A table in LaTeX, for the package amsmath; what stands in a cell is set as in papers.
+
+    >>> print(latex_table(["board", "value"], [["T.F", "^*"]]), end="")
+    \begin{tabular}{ll}
+    board & value \\ \hline
+    \texttt{T.F} & ${\uparrow}{\ast}$ \\
+    \end{tabular}
+    """
+    lines = [rf"\begin{{tabular}}{{{'l' * len(head)}}}"]
+    lines.append(" & ".join(map(plain_latex, head)) + r" \\ \hline")
+    for row in rows:
+        lines.append(" & ".join(map(latex_cell, head, row)) + r" \\")
+    return "\n".join([*lines, r"\end{tabular}", ""])
+
+
+def latex_cell(heading: str, cell: str) -> str:
+    """A cell in LaTeX: a board and a refusal in type of one width, anything else as papers do."""
+    if heading == "board" or cell.startswith("!"):
+        return rf"\texttt{{{plain_latex(cell)}}}" if cell else ""
+    return f"${latex_of(cell)}$" if cell else ""
 
 
 def fields_of(reply: Reply, question: Optional[str] = None) -> Record:
@@ -129,4 +154,6 @@ def json_line(record: Record) -> str:
     >>> json_line({"kind": "mean", "mean": Fraction(1, 2)})
     '{"kind": "mean", "mean": "1/2"}\\n'
     """
+    import json  # here, as few need it and loading it takes time
+
     return json.dumps(record, default=str, ensure_ascii=False) + "\n"

@@ -63,6 +63,8 @@ BOARDS = {
 """The manual's table of boards: the symbols, Left's moves and Right's."""
 COMMANDS = {
     ":names": "lists the definitions",
+    ":save": "`:save FILE` writes what was asked and defined, as a session for cg",
+    ":load": "`:load FILE` answers the lines of a file, as `:save` writes them",
     ":share": "`:share N` gives each line N cells of the table from now on",
     ":positions": "`:positions P` allows each list of a line P items from now on",
     ":help": "tells the questions and commands; `:help thermo` tells of thermo, and so on",
@@ -75,11 +77,14 @@ TOPICS = sorted([*QUESTIONS, *EXPRESSIONS, *BOARDS, *COMMANDS, *KINDS, *CAUSES])
 def overview() -> str:
     """What can be typed."""
     rows = [*QUESTIONS.values(), ("plot E", "the thermograph of E, drawn")]
+    rows.append(("E", "the value of E"))
     rows.append(("g := E", "defines g, which stands for E from then on"))
     rows += [
         (":names", COMMANDS[":names"]),
         (":share N", "gives each line N cells of the table from now on"),
         (":positions P", "allows each list of a line P items from now on"),
+        (":save FILE", "writes what was asked and defined, as a session for cg"),
+        (":load FILE", "answers the lines of a file, as `:save` writes them"),
         (":help TOPIC", "tells of a question, a game, a command or a refusal"),
         (":quit", COMMANDS[":quit"]),
     ]

@@ -23,6 +23,17 @@ BARS = {1: r" \mid ", 2: r" \parallel "}
 SIGNS = {"{": r"\{", "}": r"\}", ",": ", ", "+": " + ", "-": " - ", ".": r" \cdot ", ";": ";\\ "}
 ENDS = ("text", "tiny", "parts", "number", "arrows", "star", "word")
 SPECIAL = {"\\": r"\backslash", "#": r"\#", "%": r"\%", "&": r"\&", "$": r"\$", "_": r"\_"}
+TYPED = {" ": "\\ ", "{": r"\{", "}": r"\}", "^": r"{\wedge}", "~": r"{\sim}", "'": r"\text{'}"}
+"""What is written for a sign of a board: in a formula, so that TeX and MathJax read it alike."""
+PLAIN = {
+    **{letter: f"\\{letter}" for letter in "#%&$_{}"},
+    "\\": r"\textbackslash{}",
+    "^": r"\textasciicircum{}",
+    "~": r"\textasciitilde{}",
+    "|": r"\textbar{}",
+    "<": r"\textless{}",
+    ">": r"\textgreater{}",
+}
 
 
 def latex_of(expression: str) -> str:
@@ -58,7 +69,7 @@ def _piece(kind: str, found: re.Match[str], before: str) -> str:
     """A token in LaTeX, behind a token of some kind."""
     token = found[0]
     if kind == "text":
-        return rf"\texttt{{{_escaped(token[1:-1])}}}"
+        return rf"\mathtt{{{_typed(token[1:-1])}}}"
     if kind == "tiny":
         sign = "+" if found["form"] == "Tiny" else "-"
         return rf"\boldsymbol{{{sign}}}_{{{_number(found['size'])}}}"
@@ -98,6 +109,24 @@ def _arrows(token: str) -> str:
     if count == 2:
         return rf"{{\{way.capitalize()}arrow}}"
     return (rf"{count}{{\cdot}}" if count != 1 else "") + rf"{{\{way}arrow}}"
+
+
+def plain_latex(text: str) -> str:
+    r"""A text as it stands, in LaTeX outside of formulas.
+
+    >>> print(plain_latex("..|#."))
+    ..\textbar{}\#.
+    """
+    return "".join(PLAIN.get(letter, letter) for letter in text)
+
+
+def _typed(text: str) -> str:
+    """The text of a board in type of one width, in which no sign has space around it."""
+    written = ""
+    for letter in text:
+        plain = letter.isalnum() or letter in ".|"
+        written += letter if plain else {**SPECIAL, **TYPED}.get(letter, f"{{{letter}}}")
+    return written
 
 
 def _escaped(text: str) -> str:

@@ -18,7 +18,5 @@ CELLS = 4_194_304
 """What `--cells` is where nothing is said, here as in the program."""
 POSITIONS = 65_536
 """What `--positions` is where nothing is said, here as in the program."""
-SHARE = 262_144
-"""The cells that a session of the package, and cg-table, give each line where nothing is said."""
-SHELL_SHARE = 1_048_576
-"""The cells that cg-shell gives each line where nothing is said."""
+SHARE = 1_048_576
+"""The cells that a session of the package and the commands give each line where nothing is said."""

@@ -1,6 +1,7 @@
 """What goes to the program, and what comes back: the bytes of sessions, and the cut output."""
 from __future__ import annotations
 
+import re
 from typing import Sequence
 
 from cgcalc.errors import WrongCall
@@ -9,6 +10,9 @@ from cgcalc.program import CgError
 
 SESSION_FORMAT = "cg 2"
 """The line that begins a session with names."""
+BLANKS = " \t\r"
+NO_BYTE = re.compile("[\ud800-\udc7f\udd00-\udfff]")
+"""Halves of letters that stand for no byte either."""
 
 
 def table_of(share: int, lines: int) -> int:
@@ -24,8 +28,12 @@ def table_of(share: int, lines: int) -> int:
 
 
 def encoded(line: str) -> bytes:
-    """The bytes of a line."""
-    return line.encode(errors="surrogateescape")
+    """The bytes of a line; half a letter becomes a byte that no text has.
+
+    >>> encoded("value ^ \\ud800")
+    b'value ^ \\xff'
+    """
+    return NO_BYTE.sub("\udcff", line).encode(errors="surrogateescape")
 
 
 def session_bytes(lines: Sequence[str]) -> bytes:
@@ -37,8 +45,10 @@ def session_bytes(lines: Sequence[str]) -> bytes:
     return b"".join(encoded(line) + b"\n" for line in (SESSION_FORMAT, *lines))
 
 
-def cut_output(written: bytes, lines: int) -> list[str]:
+def cut_output(written: bytes, lines: int, told: str = "") -> list[str]:
     """The replies in what the program wrote, one for each line behind the first.
+
+    Where it wrote others the error has what it told on standard error.
 
     >>> cut_output(b"2: 1\\n3: ! full\\n", 2)
     ['1', '! full']
@@ -46,5 +56,6 @@ def cut_output(written: bytes, lines: int) -> list[str]:
     cut = [line.partition(": ") for line in written.decode(errors="replace").split("\n")]
     numbers = [number for number, _, _ in cut]
     if numbers != [*(str(number) for number in range(2, lines + 2)), ""]:
-        raise CgError(f"the program wrote what are no answers to {lines} lines: is it cg?")
+        why = f" ({told})" if told else ""
+        raise CgError(f"the program wrote what are no answers to {lines} lines{why}: is it cg?")
     return [text for _, _, text in cut[:-1]]

@@ -4,7 +4,9 @@ from __future__ import annotations
 from numbers import Rational
 from typing import TYPE_CHECKING, Union
 
+from cgcalc.definitions import Named, Names
 from cgcalc.errors import WrongCall
+from cgcalc.exact import exact_number
 
 if TYPE_CHECKING:
     from cgcalc.game import Game
@@ -13,10 +15,17 @@ if TYPE_CHECKING:
 class Operand:
     """A game, or what stands for one. Sums and multiples are games; each order is asked."""
 
+    __slots__ = ()
+
     @property
     def expression(self) -> str:
         """The text of the game in the notation."""
         raise NotImplementedError
+
+    @property
+    def names(self) -> Names:
+        """What the names in the text stand for."""
+        return Names()
 
     def __add__(self, other: Summand) -> Game:
         return _game(self).plus(_summand("+", other))
@@ -68,9 +77,9 @@ def text_of(expression: Expression) -> str:
     """
     if isinstance(expression, Operand):
         return expression.expression
-    if isinstance(expression, Rational):
-        whole = int(expression.denominator) == 1
-        return str(int(expression.numerator)) + ("" if whole else f"/{int(expression.denominator)}")
+    number = exact_number(expression)
+    if number is not None:
+        return str(number)
     if not isinstance(expression, str):
         raise WrongCall(
             f"{expression!r} is no game: give a text such as '{{2|-1}} + ^', a game, a value, an"
@@ -83,6 +92,12 @@ def text_of(expression: Expression) -> str:
     return expression.strip()
 
 
+def named(expression: Expression, names: Names) -> Named:
+    """The text of an expression, and what its names stand for: in a text what they do now."""
+    text = text_of(expression)
+    return text, expression.names if isinstance(expression, Operand) else names.used([text])
+
+
 def _game(operand: Expression) -> Game:
     from cgcalc.game import Game  # values make games, and games have values
 
@@ -90,7 +105,7 @@ def _game(operand: Expression) -> Game:
 
 
 def _summand(sign: str, other: Summand) -> Game:
-    if isinstance(other, (Operand, Rational)):
+    if isinstance(other, Operand) or exact_number(other) is not None:
         return _game(other)
     if isinstance(other, str):
         raise WrongCall(f"a text is no game by itself: write Game({other!r}) behind the {sign}")

@@ -1,10 +1,11 @@
-"""The built program: where it is found, and how a run of it can fail."""
+"""The built program: where it is found, what is known of it, and how a run of it can fail."""
 from __future__ import annotations
 
+import contextlib
 import os
 import shutil
 from pathlib import Path
-from typing import Iterator
+from typing import Optional
 
 BUILT = Path("crates", "cg", "out", "cg")
 
@@ -57,29 +58,57 @@ class ProgramFailed(CgError):
 
 
 def find_program() -> str:
-    """The path of the program.
+    """The absolute path of the program.
 
-    It is the one that `CG` in the environment names, else `cg` on the path, else crates/cg/out/cg
-    in a folder above the working directory or above this package.
+    It is the one that `CG` in the environment names, else the one inside this package, else the
+    one that the clone built in which the package lies, else `cg` on the path. Nothing is looked
+    for in other folders.
     """
     named = os.environ.get("CG")
     if named:
-        found = shutil.which(named)
-        if found is None:
-            raise ProgramMissing(f"CG in the environment names {named}, which is no program")
-        return found
-    found = shutil.which("cg") or next(_built(), None)
+        return _named(named)
+    own = [folder() / "cg", clone() / BUILT]
+    found = next((str(path) for path in own if _can_run(path)), None) or shutil.which("cg")
     if found is None:
+        inside, built = own
         raise ProgramMissing(
-            "the program cg isn't found: put it on the path, or name it by CG in the environment,"
-            " or build it by `cd crates/cg && rt run`"
+            "the program cg isn't found: put it on the path, or name it by CG in the environment"
+            f" (there is no {inside}, no {built}, and no cg on the path)"
         )
-    return found
+    return os.path.abspath(found)
 
 
-def _built() -> Iterator[str]:
-    """The programs that stand built above the working directory and above this package."""
-    here = Path.cwd()
-    for folder in [here, *here.parents, *Path(__file__).resolve().parents]:
-        if os.access(folder / BUILT, os.X_OK):
-            yield str(folder / BUILT)
+def folder() -> Path:
+    """The folder of this package."""
+    return Path(__file__).resolve().parent
+
+
+def clone() -> Path:
+    """The top of the clone, where this package lies in one."""
+    return folder().parent.parent
+
+
+def _can_run(path: Path) -> bool:
+    return path.is_file() and os.access(path, os.X_OK)
+
+
+_MET: dict[str, str] = {}
+
+
+def _named(name: str) -> str:
+    """The program that a value of `CG` names: a command on the path, or a path.
+
+    A relative path counts from the folder where the process met it first, so that it stays the
+    same when the process goes to another folder.
+    """
+    path: Optional[str] = shutil.which(name)
+    if os.sep in name:
+        path = _MET.setdefault(name, os.path.abspath(name))
+    if path is None or not _can_run(Path(path)):
+        raise ProgramMissing(f"CG in the environment names {path or name}, which is no program")
+    return os.path.abspath(path)
+
+
+with contextlib.suppress(ProgramMissing, OSError):
+    if os.environ.get("CG"):
+        _named(os.environ["CG"])

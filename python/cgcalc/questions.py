@@ -8,6 +8,8 @@ from pathlib import Path
 from typing import Iterable, Optional, Sequence, Union
 
 from cgcalc.errors import WrongCall
+from cgcalc.exact import exact_number, whole_number
+from cgcalc.operands import Operand, text_of
 
 PLACES = ("board", "rows", "columns")
 RANGE = re.compile(r"([0-9]{1,6})(?:-([0-9]{1,6}))?")
@@ -52,8 +54,24 @@ def questions_of(
         return questions_of_sizes(asked, rows, columns, fill)
     if isinstance(boards, str):
         raise WrongCall("boards are a list of texts, not one text: put it in brackets")
-    texts = [str(getattr(board, "expression", board)) for board in boards]
-    return questions_of_boards(asked, texts)
+    return questions_of_boards(asked, texts_of_boards(boards))
+
+
+def texts_of_boards(boards: Iterable[object]) -> list[str]:
+    """The boards as texts: each is one, or a game, a value, a board or a number.
+
+    >>> texts_of_boards(["T.F", 3])
+    ['T.F', '3']
+    """
+    texts = []
+    for at, board in enumerate(boards):
+        if isinstance(board, str):
+            texts.append(board)
+        elif isinstance(board, Operand) or exact_number(board) is not None:
+            texts.append(text_of(board))  # type: ignore[arg-type]
+        else:
+            raise WrongCall(f"boards[{at}] is no board, which is a text or a game: {board!r}")
+    return texts
 
 
 def questions_of_boards(templates: Sequence[str], boards: list[str]) -> Questions:
@@ -131,11 +149,18 @@ def sizes_of(what: str, given: Sizes) -> list[int]:
     if isinstance(given, str):
         sizes = [size for part in given.split(",") for size in _range(part)]
     else:
-        sizes = [given] if isinstance(given, int) else list(given)
-    if not sizes or not all(isinstance(size, int) and size >= 0 for size in sizes):
+        sizes = _whole_numbers(given)
+    if not sizes or min(sizes) < 0:
         shapes = "a number, a range such as 1-4, or a list such as 1,3,5"
         raise WrongCall(f"{what} is {shapes}, not {given!r}")
     return sizes
+
+
+def _whole_numbers(given: Union[int, Iterable[int]]) -> list[int]:
+    """The numbers of a list, or a number alone; -1 in place of what is none."""
+    listed = list(given) if isinstance(given, Iterable) else [given]
+    numbers = [whole_number(size) for size in listed]
+    return [-1 if number is None else number for number in numbers]
 
 
 def _range(text: str) -> list[int]:
@@ -150,7 +175,8 @@ def read_boards(path: str) -> list[str]:
     try:
         read = sys.stdin.buffer.read() if path == "-" else Path(path).read_bytes()
     except OSError as error:
-        raise WrongCall(f"the boards can't be read from {path}: {error.strerror}") from error
+        why = error.strerror or error
+        raise WrongCall(f"the boards can't be read from {path}: {why}") from error
     lines = (line.strip(" \t\r") for line in read.decode(errors="surrogateescape").split("\n"))
     boards = [line for line in lines if line]
     if not boards:

@@ -9,13 +9,15 @@ from dataclasses import dataclass, field
 from fractions import Fraction
 from typing import Callable, ClassVar, Iterator, Optional, Union
 
+from cgcalc.lines import BLANKS
 from cgcalc.program import ProgramFailed
 from cgcalc.refusals import Refusal
 from cgcalc.thermographs import Corner, Thermograph
 from cgcalc.values import Value
 
-BLANKS = " \t\r"
 FAILED = "! failed "
+NAME = re.compile(r"(?:[-0-9/^v*+{}|,]|(?:Tiny|Miny)\([-0-9/]+\))+")
+"""What the names of canonical forms are made of."""
 
 
 class _Answer:
@@ -176,6 +178,13 @@ def read_reply(question: str, text: str) -> Reply:
     return reply
 
 
+def read_value(text: str) -> Value:
+    """The value that a name such as `{2|0}` tells."""
+    if not NAME.fullmatch(text) or text.count("{") != text.count("}"):
+        raise ValueError(text)
+    return Value(text)
+
+
 def read_order(text: str) -> Order:
     """The order that a sign such as `<` tells."""
     return Order(_one_of(text, ("<", ">", "=", "||")))
@@ -221,7 +230,7 @@ def _one_of(text: str, texts: tuple[str, ...]) -> str:
 
 
 READERS: dict[str, Callable[[str], Reply]] = {
-    "value": Value,
+    "value": read_value,
     "compare": read_order,
     "outcome": read_outcome,
     "stops": read_stops,

@@ -6,14 +6,17 @@ import os
 import shutil
 import signal
 import subprocess
+import tempfile
 import threading
 import weakref
 from concurrent.futures import Executor, Future
 from dataclasses import dataclass, field
 from functools import lru_cache
+from math import inf
 from queue import SimpleQueue
-from typing import Any, Callable, Optional, TypeVar
+from typing import Any, BinaryIO, Callable, Optional, TypeVar, cast
 
+from cgcalc.marks import Mark, Place, this_machine, is_there
 from cgcalc.program import OUT_OF_TIME, CgError, find_program
 
 LIMITED = ["/bin/sh", "-c", 'ulimit -v "$0" 2>/dev/null; exec "$@"']
@@ -22,11 +25,15 @@ CANT_BE_RUN = (126, 127)
 """The statuses by which such words tell that there is no program behind them."""
 TUNABLES, HUGE_PAGES = "GLIBC_TUNABLES", "glibc.malloc.hugetlb"
 OLDEST_WITH_HUGE_PAGES = (2, 35)
+LOOK = 0.1
+"""The seconds after which a run that came from another process looks whether that still waits."""
+LONGEST_WAIT = 100_000.0
+"""The most seconds that one call of the system waits."""
 Answer = TypeVar("Answer")
 
 
 @dataclass(frozen=True)
-class Ended:
+class RunEnd:
     """How a run ended: its status, what it wrote, and the last line on its standard error."""
 
     status: int
@@ -37,27 +44,45 @@ class Ended:
 class Runs:
     """The runs of one batch that are under way in this process, which can be stopped together.
 
-    Where a run is sent to another process it goes with runs of its own there.
+    Where a run is sent to another process it goes with runs of its own there. A process that forks
+    has its runs for itself: the new one neither stops them nor waits for what its threads hold.
     """
 
-    def __init__(self) -> None:
+    def __init__(self, travels: bool = False) -> None:
         self._running: set[subprocess.Popen[bytes]] = set()
         self._stopped = False
-        self._lock = threading.Lock()
+        self._process = os.getpid()
+        self._mark = Mark() if travels else None
+        self._watched: Optional[Place] = None
         _ALIVE.add(self)
 
-    def __reduce__(self) -> tuple[type[Runs], tuple[()]]:
-        return Runs, ()
+    def __reduce__(self) -> tuple[object, ...]:
+        return _runs_elsewhere, (self._mark.place if self._mark else self._watched,)
 
-    def start(self, words: list[str]) -> subprocess.Popen[bytes]:
-        """Starts a program."""
-        with self._lock:
-            if self._stopped:
+    @property
+    def is_watched(self) -> bool:
+        """Whether they end where those that they came from are stopped."""
+        return self._watched is not None
+
+    @property
+    def are_wanted(self) -> bool:
+        """Whether those that they came from, if they did, still run."""
+        return self._watched is None or is_there(self._watched)
+
+    @property
+    def is_own(self) -> bool:
+        """Whether they were begun in this process, not in the one that it was forked from."""
+        return self._process == os.getpid()
+
+    def start(self, words: list[str], session: bytes) -> subprocess.Popen[bytes]:
+        """Starts a program that reads a session."""
+        with _input_of(session) as given, _STARTING:
+            if self._stopped or not self.is_own:
                 raise CgError("the runs were stopped")
             try:
                 process = subprocess.Popen(
                     words,
-                    stdin=subprocess.PIPE,
+                    stdin=given,
                     stdout=subprocess.PIPE,
                     stderr=subprocess.PIPE,
                     env=environment(),
@@ -70,17 +95,30 @@ class Runs:
 
     def forget(self, process: subprocess.Popen[bytes]) -> None:
         """Takes note that a run has ended."""
-        with self._lock:
+        with _STARTING:
             self._running.discard(process)
 
     def stop(self) -> None:
         """Ends the runs that are under way, and lets no other begin."""
-        with self._lock:
+        if not self.is_own:
+            return
+        with _STARTING:
             self._stopped = True
+            if self._mark:
+                self._mark.remove()
             for process in self._running:
                 kill(process)
 
 
+def _runs_elsewhere(watched: Optional[Place]) -> Runs:
+    """Runs in a process to which some were sent."""
+    runs = Runs()
+    runs._watched = watched if watched and watched[0] == this_machine() else None
+    return runs
+
+
+_STARTING = threading.RLock()
+"""Held where a run starts or is taken off the list; no process is forked meanwhile."""
 _ALIVE: weakref.WeakSet[Runs] = weakref.WeakSet()
 
 
@@ -92,6 +130,24 @@ def _stop_all() -> None:
 
 # Pools of concurrent.futures wait for their threads before what atexit registers is called.
 getattr(threading, "_register_atexit", atexit.register)(_stop_all)
+os.register_at_fork(
+    before=_STARTING.acquire, after_in_parent=_STARTING.release, after_in_child=_STARTING.release
+)
+
+
+def _input_of(session: bytes) -> BinaryIO:
+    """A file without a name that has a session, from its beginning.
+
+    It is no pipe: a process that is forked meanwhile would keep the pipe open, and the program
+    would wait for its end.
+    """
+    try:
+        given: BinaryIO = open(os.memfd_create("session"), "w+b")
+    except (AttributeError, OSError):
+        given = cast(BinaryIO, tempfile.TemporaryFile())
+    given.write(session)
+    given.seek(0)
+    return given
 
 
 @dataclass(frozen=True)
@@ -119,13 +175,15 @@ class Job:
         return [*limited, self.program or find_program(), *words]
 
 
-def run(job: Job) -> Ended:
+def run(job: Job) -> RunEnd:
     """Runs the program, and waits for its end. A run that takes too long is ended."""
-    process = job.runs.start(job.words())
+    if not job.runs.are_wanted:
+        raise CgError("the runs were stopped")
+    process = job.runs.start(job.words(), job.session)
     try:
-        written, told = process.communicate(job.session, job.timeout)
+        written, told = _awaited(process, job)
     except subprocess.TimeoutExpired:
-        return Ended(OUT_OF_TIME)
+        return RunEnd(OUT_OF_TIME)
     finally:
         if process.returncode is None:
             kill(process)
@@ -134,7 +192,22 @@ def run(job: Job) -> Ended:
     lines = told.decode(errors="replace").strip().splitlines() or [""]
     if process.returncode in CANT_BE_RUN:
         raise CgError(f"{job.program or find_program()} can't be run: {lines[-1]}")
-    return Ended(process.wait(), written, lines[-1])
+    return RunEnd(process.wait(), written, lines[-1])
+
+
+def _awaited(process: subprocess.Popen[bytes], job: Job) -> tuple[bytes, bytes]:
+    """What a run writes until it ends; TimeoutExpired where it takes too long."""
+    step = LOOK if job.runs.is_watched else LONGEST_WAIT
+    left = inf if job.timeout is None else job.timeout
+    while True:
+        try:
+            return process.communicate(timeout=min(step, left))
+        except subprocess.TimeoutExpired:
+            left -= step
+            if left <= 0:
+                raise
+            if not job.runs.are_wanted:
+                raise CgError("the runs were stopped") from None
 
 
 @lru_cache(maxsize=None)

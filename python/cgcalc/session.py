@@ -2,52 +2,36 @@
 from __future__ import annotations
 
 import os
-import re
+import threading
 from concurrent.futures import Executor
-from dataclasses import dataclass
 from typing import Iterable, Optional, Sequence, Union
 
-from cgcalc.batch import START_BYTES, Batch, Limits
-from cgcalc.errors import WrongCall
+from cgcalc.asked import check_one_line, check_question, questions_in
+from cgcalc.batch import Batch
+from cgcalc.batch_limits import START_BYTES, Limits
+from cgcalc.cache import Cache, cache_of
+from cgcalc.definitions import BINDS_NOTHING, NAME, Definition, Names, needed_lines
+from cgcalc.errors import Refused, WrongCall
+from cgcalc.exact import whole_number
+from cgcalc.filling import learn_from_table, questions_about
 from cgcalc.limits import CELLS, MOST_CELLS, MOST_POSITIONS, MOST_PROCESSES, POSITIONS, SHARE
-from cgcalc.program import find_program
+from cgcalc.operands import Operand
+from cgcalc.processors import processors
+from cgcalc.program import CgError, find_program
 from cgcalc.questions import Sizes, questions_of
 from cgcalc.refusals import Refusal
-from cgcalc.replies import BLANKS, Failed, Reply
-from cgcalc.stream import Progress, Replies, read_text
+from cgcalc.replies import Failed, Reply
+from cgcalc.stream import ProgressListener, Replies, read_text
 from cgcalc.table import Table
 from cgcalc.typed import TypedCalls
+from cgcalc.values import Value
 
-NAME = re.compile(r"[a-uw-z][a-z0-9]{0,15}")
-WORD = re.compile(r"[a-z][a-z0-9]*")
-DEFINITION = re.compile(rf"[{BLANKS}]*({NAME.pattern})[{BLANKS}]*:=[{BLANKS}]*(.*)", re.DOTALL)
-BINDS_NOTHING = ("syntax", "name", "parts")
 MOST_MEMORY = 1 << 62
-
-
-@dataclass(frozen=True)
-class Definition:
-    """A name, and the text of the game that it stands for.
-
-    >>> Definition.read("g := {2|-1}")
-    Definition(name='g', text='{2|-1}')
-    >>> Definition.read("value {2|-1}") is None
-    True
-    """
-
-    name: str
-    text: str
-
-    @property
-    def line(self) -> str:
-        """The line of a session that defines the name."""
-        return f"{self.name} := {self.text}"
-
-    @classmethod
-    def read(cls, line: str) -> Optional[Definition]:
-        """The definition that a line is, or None where it is none."""
-        found = DEFINITION.fullmatch(line)
-        return cls(*found.groups()) if found else None
+_BINDING = threading.Lock()
+"""Held where a name is bound, since several threads may define names; no process is forked then."""
+os.register_at_fork(
+    before=_BINDING.acquire, after_in_parent=_BINDING.release, after_in_child=_BINDING.release
+)
 
 
 class Session(TypedCalls):
@@ -62,6 +46,9 @@ class Session(TypedCalls):
 
     A question may take `timeout` seconds, and a run `memory` bytes. A run that fails or takes too
     long is asked again line by line, and a line that fails alone gets the reply `Failed`.
+
+    `cache` is the path of a file in which replies are looked up and kept, or True for the user's
+    own, in ~/.cache/cgcalc.
 
     `executor` makes the runs, as any of `concurrent.futures` does whose workers have the program:
     `processes` says how many of them there are, and without `program` each finds its own.
@@ -94,26 +81,35 @@ class Session(TypedCalls):
         timeout: Optional[float] = None,
         memory: Optional[int] = None,
         executor: Optional[Executor] = None,
+        cache: Union[None, bool, str, "os.PathLike[str]", Cache] = None,
     ) -> None:
         self.timeout = timeout
         self.memory = memory if memory is None else _within("memory", memory, MOST_MEMORY)
         self.set_limits(share=share, positions=positions)
         self.cells = _within("cells", cells, MOST_CELLS)
-        self.processes = _within("processes", os.cpu_count() or 1, MOST_PROCESSES)
-        if processes is not None:
-            self.processes = _within("processes", processes, MOST_PROCESSES)
+        if processes is None:
+            processes = min(processors(), MOST_PROCESSES)
+        self.processes = _within("processes", processes, MOST_PROCESSES)
         if timeout is not None and not (isinstance(timeout, (int, float)) and timeout > 0):
             raise WrongCall(f"timeout is a number of seconds above 0, not {timeout!r}")
         if executor is not None and not isinstance(executor, Executor):
             raise WrongCall("executor is one of concurrent.futures, or made like those")
         self.executor = executor
         self.program = program or (find_program() if executor is None else None)
-        self._definitions: list[Definition] = []
+        self.cache = cache_of(cache)
+        if self.cache is not None and self.program is None:
+            raise WrongCall("a cache has to know the program that the executor runs: name it")
+        self._names = Names()
 
     @property
     def definitions(self) -> dict[str, str]:
         """The names that are defined, with their texts."""
-        return {definition.name: definition.text for definition in self._definitions}
+        return {name: bound.definition.text for name, bound in self._names.bound.items()}
+
+    @property
+    def names(self) -> Names:
+        """What the names stand for now."""
+        return self._names
 
     def set_limits(self, *, share: int, positions: int) -> None:
         """Says what each line may take from now on."""
@@ -126,31 +122,48 @@ class Session(TypedCalls):
         self.positions = _within("positions", positions, MOST_POSITIONS)
         self.share = share
 
-    def define(self, name: str, text: str) -> Reply:
+    def define(self, name: str, text: str) -> Value:
         """Defines a name for the questions and definitions that follow, and answers with its value.
 
-        A text that the program refuses by `! syntax`, `! name` or `! parts` defines nothing.
+        A refusal raises `Refused`. By `! syntax`, `! name` or `! parts` it defines nothing; by any
+        other the name is defined, and a question that uses it is refused likewise.
 
         >>> session = Session()
-        >>> session.define("g", "{2|0").column
-        10
+        >>> session.define("g", "{2|0}")
+        Value(name='{2|0}')
         >>> session.definitions
-        {}
+        {'g': '{2|0}'}
         """
-        if not isinstance(name, str) or not NAME.fullmatch(name):
-            shape = "a small letter but v, then up to 15 small letters and digits"
-            raise WrongCall(f"{name!r} is no name, which is {shape}")
         definition = Definition(name, text)
-        _check_one_line(definition.line)
-        (written,) = self._batch([definition.line]).texts()
-        if isinstance(written, Failed):
-            raise written.error()
-        reply = read_text("value", written)
-        if not (isinstance(reply, Refusal) and reply.kind in BINDS_NOTHING):
-            self._definitions.append(definition)
+        reply = self.bind(definition)
+        if isinstance(reply, Refusal):
+            raise Refused(definition.line, reply)
+        if not isinstance(reply, Value):
+            raise CgError(f"{definition.line!r} asks for a value, and the reply is {reply!r}")
         return reply
 
-    def ask(self, lines: Iterable[str], *, progress: Optional[Progress] = None) -> list[Reply]:
+    def bind(self, definition: Definition) -> Reply:
+        """Defines a name as the program does, and gives its reply, be it a refusal.
+
+        >>> session = Session()
+        >>> session.bind(Definition("g", "{2|0")), session.definitions
+        (Refusal(kind='syntax', column=10, cause=None, place=None), {})
+        """
+        if not isinstance(definition.name, str) or not NAME.fullmatch(definition.name):
+            shape = "a small letter but v, then up to 15 small letters and digits"
+            raise WrongCall(f"{definition.name!r} is no name, which is {shape}")
+        if not isinstance(definition.text, str):
+            raise WrongCall(f"a name stands for a text, not for {definition.text!r}")
+        check_one_line(definition.line)
+        reply = self._asked_alone(definition.line, "value", self._names.used([definition.text]))
+        if not (isinstance(reply, Refusal) and reply.kind in BINDS_NOTHING):
+            with _BINDING:
+                self._names = self._names.bind(definition)
+        return reply
+
+    def ask(
+        self, lines: Iterable[str], *, progress: Optional[ProgressListener] = None
+    ) -> list[Reply]:
         """The replies to questions, in their order.
 
         >>> Session().ask(["mean {4||2|0}", "stops {0|1/2}"])
@@ -159,7 +172,9 @@ class Session(TypedCalls):
         with self.replies(lines, progress=progress) as replies:
             return list(replies)
 
-    def replies(self, lines: Iterable[str], *, progress: Optional[Progress] = None) -> Replies:
+    def replies(
+        self, lines: Iterable[str], *, progress: Optional[ProgressListener] = None
+    ) -> Replies:
         """The replies to questions, in their order, each as soon as those before it are there.
 
         `progress` is a function that is told how many replies there are and are to be, or a class
@@ -168,12 +183,8 @@ class Session(TypedCalls):
         >>> list(Session().replies(f"outcome {n}" for n in (-1, 0, 1)))
         [Outcome(winner='R'), Outcome(winner='P'), Outcome(winner='L')]
         """
-        if isinstance(lines, str):
-            raise WrongCall("questions are a list of lines, not one text: put it in brackets")
-        questions = list(lines)
-        for question in questions:
-            check_question(question)
-        return Replies(questions, self._batch(questions), progress)
+        questions = questions_in(lines)
+        return Replies(questions, self._batch(questions, self._names), progress)
 
     def table(
         self,
@@ -183,12 +194,13 @@ class Session(TypedCalls):
         rows: Optional[Sizes] = None,
         columns: Optional[Sizes] = None,
         fill: Optional[str] = None,
-        progress: Optional[Progress] = None,
+        progress: Optional[ProgressListener] = None,
     ) -> Table:
         """The replies to questions that are asked of each of many boards or sizes, as a table.
 
         A question is a template in which `{board}` stands for each of the boards, or for a board of
-        each size filled with `fill`, and `{rows}` and `{columns}` for the sizes.
+        each size filled with `fill`, and `{rows}` and `{columns}` for the sizes. Games among the
+        boards keep what the table answers of them.
 
         >>> questions = ['value Toads("{board}")', 'outcome Toads("{board}")']
         >>> print(Session().table(questions, boards=["T.F", "TT..FF"]))
@@ -196,11 +208,62 @@ class Session(TypedCalls):
         T.F     *      N
         TT..FF  *      N
         """
-        table = Table(questions_of(questions, boards, rows, columns, fill))
+        if boards is not None and not isinstance(boards, str):
+            boards = list(boards)
+        listed = boards if isinstance(boards, list) else []
+        texts = [self._board_text(board) for board in listed] if listed else boards
+        table = Table(questions_of(questions, texts, rows, columns, fill))
         table.replies = self.ask([entry.question for entry in table.entries], progress=progress)
+        learn_from_table(listed, table.templates, table.replies)
         return table
 
-    def _batch(self, lines: Sequence[str]) -> Batch:
+    def _board_text(self, board: object) -> object:
+        """A board as it stands in a question; names that mean something else here, written out."""
+        if not isinstance(board, Operand):
+            return board
+        known = self._names.bound
+        if all(known.get(name) is bound for name, bound in board.names.bound.items()):
+            return board.expression
+        return board.names.written_out(board.expression)
+
+    def fill(
+        self,
+        games: Iterable[object],
+        *words: str,
+        progress: Optional[ProgressListener] = None,
+    ) -> None:
+        """Asks for answers of many games in one batch, so that none of them has to ask for itself.
+
+        The words are `value` (which is meant where none is given), `outcome`, `stops`, `mean`,
+        `temperature` and `thermograph`, as games have them, and `compare` for all orders between
+        two of the games, which sorting needs. What is refused raises when the game is asked.
+
+        >>> from cgcalc import Game
+        >>> session = Session()
+        >>> games = [Game("{2|-1}", session=session), Game("^", session=session)]
+        >>> session.fill(games, "mean", "compare")
+        >>> [g.knows("mean") for g in games], games[0].is_confused_with(games[1])
+        ([True, True], True)
+        """
+        for names, asked in questions_about(games, words or ("value",)).by_names.values():
+            lines = questions_in([line for line, _ in asked])
+            with Replies(lines, self._batch(lines, names), progress) as replies:
+                for (_, take), reply in zip(asked, replies):
+                    take(reply)
+
+    def _ask_with(self, line: str, names: Names) -> Reply:
+        """The reply to a question in which names stand for games of their own."""
+        check_question(line)
+        return self._asked_alone(line, line, names)
+
+    def _asked_alone(self, line: str, question: str, names: Names) -> Reply:
+        """The reply to one line, read as that to a question. ProgramFailed where its run failed."""
+        (written,) = self._batch([line], names).texts()
+        if isinstance(written, Failed):
+            raise written.error()
+        return read_text(question, written)
+
+    def _batch(self, lines: Sequence[str], names: Names) -> Batch:
         """The lines on their way to the program, with what this session says from now on."""
         limits = Limits(
             self.share,
@@ -212,56 +275,11 @@ class Session(TypedCalls):
             self.memory,
             self.executor,
         )
-        definitions = tuple(self._definitions)
-        return Batch(lines, lambda some: needed(definitions, some), limits)
+        return Batch(lines, lambda some: needed_lines(names, some), limits, self.cache)
 
 
-def needed(definitions: Sequence[Definition], lines: Sequence[str]) -> list[str]:
-    """The lines of the definitions that lines may use, themselves or by other definitions.
-
-    A definition whose name is no word of a text isn't used there.
-
-    >>> needed([Definition("a", "1"), Definition("b", "a"), Definition("c", "2")], ["value b"])
-    ['a := 1', 'b := a']
-    """
-    if not definitions:
-        return []
-    words = set().union(*map(words_in, lines))
-    found = []
-    for definition in reversed(definitions):
-        if definition.name in words:
-            found.append(definition.line)
-            words |= words_in(definition.text)
-    return found[::-1]
-
-
-def words_in(text: str) -> set[str]:
-    """The words of a text that may be names, each as long as a name can be.
-
-    >>> sorted(words_in("value 2.g3 - {hall|0}"))
-    ['g3', 'hall', 'value']
-    """
-    return {word[:16] for word in WORD.findall(text)}
-
-
-def _within(what: str, number: int, most: int) -> int:
-    if not isinstance(number, int) or not 1 <= number <= most:
+def _within(what: str, number: object, most: int) -> int:
+    whole = whole_number(number)
+    if whole is None or not 1 <= whole <= most:
         raise WrongCall(f"{what} must be a number from 1 to {most}")
-    return number
-
-
-def _check_one_line(line: str) -> None:
-    if "\n" in line:
-        raise WrongCall(f"this has several lines: {line!r}")
-
-
-def check_question(line: str) -> None:
-    """Raises WrongCall for a text that is no question."""
-    if not isinstance(line, str):
-        raise WrongCall(f"a question is a line of text, not {line!r}")
-    _check_one_line(line)
-    text = line.strip(BLANKS)
-    if not text or text.startswith("#"):
-        raise WrongCall(f"this asks nothing: {line!r}")
-    if Definition.read(line):
-        raise WrongCall(f"this defines a name, which `define` does: {line!r}")
+    return whole

@@ -1,14 +1,28 @@
 """Replies one by one, and the progress that they make."""
 from __future__ import annotations
 
+from functools import partial
 from types import TracebackType
-from typing import Any, Callable, Generator, Iterator, Optional, Sequence
+from typing import Callable, Generator, Iterator, Optional, Protocol, Sequence, Union
 
 from cgcalc.batch import Batch
 from cgcalc.program import CgError
 from cgcalc.replies import Failed, Reply, read_reply
 
-Progress = Callable[..., Any]
+
+class ProgressBar(Protocol):
+    """A bar, as tqdm makes them."""
+
+    def update(self, n: int) -> object:
+        """Moves the bar by so many."""
+
+    def close(self) -> object:
+        """Ends the bar."""
+
+
+ProgressListener = Union[Callable[[int, int], object], Callable[..., ProgressBar]]
+"""A function that is told how many replies there are and are to be, or a class such as tqdm, of
+which a bar is made with `total`, and then told by `update` and `close`."""
 
 
 class Replies(Iterator[Reply]):
@@ -23,12 +37,12 @@ class Replies(Iterator[Reply]):
     """
 
     def __init__(
-        self, questions: Sequence[str], batch: Batch, progress: Optional[Progress] = None
+        self, questions: Sequence[str], batch: Batch, progress: Optional[ProgressListener] = None
     ) -> None:
         self.total = len(questions)
         self.done = 0
         self._replies = _read_all(questions, batch)
-        self._told = Told(progress, self.total) if progress else None
+        self._told = ProgressTeller(progress, self.total) if progress else None
 
     def __next__(self) -> Reply:
         try:
@@ -62,33 +76,37 @@ class Replies(Iterator[Reply]):
         self.close()
 
 
-class Told:
-    """Who is told of the progress: a function, by how many replies there are and are to be, or a
-    class such as tqdm, of which one is made with `total`, and then told by `update` and `close`.
-    """
+class ProgressTeller:
+    """Tells of the progress: a function, or a bar that is made for it."""
 
-    def __init__(self, progress: Progress, total: int) -> None:
+    def __init__(self, listener: ProgressListener, total: int) -> None:
         self._total = total
-        self._call = progress
-        self._bar = progress(total=total) if isinstance(progress, type) else None
+        self._tell: Optional[Callable[[int, int], object]] = None
+        self._bar: Optional[ProgressBar] = None
+        if _makes_bars(listener):
+            self._bar = listener(total=total)  # type: ignore[call-arg, assignment]
+        else:
+            self._tell = listener
 
     def tell(self, done: int) -> None:
         """Tells that one more is done."""
-        if self._bar is None:
-            self._call(done, self._total)
-        else:
+        if self._bar is not None:
             self._bar.update(1)
+        elif self._tell is not None:
+            self._tell(done, self._total)
 
     def close(self) -> None:
         """Tells that no more will be done."""
-        if self._bar is not None:
-            self._bar.close()
-            self._bar = None
-            self._call = _nothing
+        bar, self._bar, self._tell = self._bar, None, None
+        if bar is not None:
+            bar.close()
 
 
-def _nothing(done: int, total: int) -> None:
-    """Who isn't told any more."""
+def _makes_bars(listener: object) -> bool:
+    """Whether it is a class of bars, also with some words given already, as partial(tqdm, ..)."""
+    while isinstance(listener, partial):
+        listener = listener.func
+    return isinstance(listener, type)
 
 
 def _read_all(questions: Sequence[str], batch: Batch) -> Generator[Reply, None, None]:

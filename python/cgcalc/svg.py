@@ -3,7 +3,6 @@ from __future__ import annotations
 
 from dataclasses import dataclass
 from typing import Sequence, Union
-from xml.sax.saxutils import escape, quoteattr
 
 FONT = "Helvetica, Arial, 'DejaVu Sans', sans-serif"
 FONT_SIZE = 12
@@ -30,6 +29,25 @@ def tag(name: str, *content: str, **attributes: Union[str, Number]) -> str:
         words.append(f"{key.rstrip('_').replace('_', '-')}={quoteattr(text)}")
     head = " ".join(words)
     return f"<{head}>{''.join(content)}</{name}>" if content else f"<{head}/>"
+
+
+def escape(text: str) -> str:
+    """A text as it stands between tags."""
+    return text.replace("&", "&amp;").replace("<", "&lt;").replace(">", "&gt;")
+
+
+def quoteattr(text: str) -> str:
+    """A text as the value of an attribute, in quotation marks.
+
+    >>> print(quoteattr('Snort("..","ab")'), quoteattr("it's"), quoteattr("both ' and \\""))
+    'Snort("..","ab")' "it's" "both ' and &quot;"
+    """
+    written = escape(text)
+    for letter, name in (("\n", "&#10;"), ("\r", "&#13;"), ("\t", "&#9;")):
+        written = written.replace(letter, name)
+    if '"' in written and "'" not in written:
+        return f"'{written}'"
+    return '"' + written.replace('"', "&quot;") + '"'
 
 
 def number_text(number: Number) -> str:

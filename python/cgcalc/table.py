@@ -1,11 +1,25 @@
 """A table: its questions, the replies so far, and its text in each of its forms."""
 from __future__ import annotations
 
-from typing import Iterator
+from importlib import import_module
+from typing import Any, Iterator
 
 from cgcalc.columns import aligned, cells_of, grid, headings_of_all
-from cgcalc.forms import JSON_LINES, LINES, Record, fields_of, html_table, json_line
+from cgcalc.errors import WrongCall
+from cgcalc.forms import (
+    FIRST_SHOWN,
+    FORMS,
+    JSON_LINES,
+    LAST_SHOWN,
+    LINES,
+    Record,
+    fields_of,
+    html_table,
+    json_line,
+    latex_table,
+)
 from cgcalc.questions import Entry, Questions
+from cgcalc.refusals import Refusal
 from cgcalc.replies import Failed, Reply
 
 NUMBERS = ("rows", "columns")
@@ -37,6 +51,11 @@ class Table:
         return self.entries[len(self.replies) :]
 
     @property
+    def failed(self) -> list[int]:
+        """The numbers of the questions whose runs failed."""
+        return [at for at, reply in enumerate(self.replies) if isinstance(reply, Failed)]
+
+    @property
     def header(self) -> list[str]:
         """The headings of the columns."""
         return self.labels + [name for names in self.headings for name in names]
@@ -61,15 +80,42 @@ class Table:
         """
         return [self.record(number) for number in range(len(self.replies))]
 
-    def record(self, number: int) -> Record:
-        """The dictionary of one reply."""
-        entry = self.entries[number]
-        labels: Record = {
+    def rows_by_board(self) -> list[Record]:
+        """A dictionary for each board or size, with the answers under the table's headings.
+
+        >>> from cgcalc import Session
+        >>> table = Session().table(["mean {board}", "stops {board}"], boards=["{2|-1}"])
+        >>> table.rows_by_board()[0]["stops left"], table.rows_by_board()[0]["mean"]
+        (Fraction(2, 1), Fraction(1, 2))
+        """
+        return [self._row_by_board(row) for row in range(len(self.replies) // len(self.headings))]
+
+    def _row_by_board(self, row: int) -> Record:
+        first = row * len(self.headings)
+        found = self._labels_of(self.entries[first])
+        for at, names in enumerate(self.headings, first):
+            fields = list(fields_of(self.replies[at]).values())[1:]
+            if self.replies[at].refused or len(names) == 1:
+                fields = [str(self.replies[at]) if self.replies[at].refused else fields[0]]
+            found.update(zip(names, [*fields, *[None] * len(names)]))
+        return found
+
+    def to_pandas(self) -> Any:
+        """A frame of pandas with a row for each board or size. Answers are fractions and texts."""
+        return import_module("pandas").DataFrame(self.rows_by_board())
+
+    def _labels_of(self, entry: Entry) -> Record:
+        """What the question was filled with."""
+        return {
             heading: int(label) if heading in NUMBERS else label
             for heading, label in zip(self.labels, entry.labels)
         }
+
+    def record(self, number: int) -> Record:
+        """The dictionary of one reply."""
+        entry = self.entries[number]
         fields = fields_of(self.replies[number], entry.question)
-        return {**labels, "question": entry.question, **fields}
+        return {**self._labels_of(entry), "question": entry.question, **fields}
 
     def text(self, form: str = "aligned") -> str:
         """The table as far as it came, in one of its forms."""
@@ -80,6 +126,12 @@ class Table:
             return "".join(map(json_line, self.records()))
         if form == "aligned":
             return aligned([self.header, *self.rows()])
+        if form == "html":
+            return html_table(self.header, self.rows()) + "\n"
+        if form == "latex":
+            return latex_table(self.header, self.rows())
+        if form not in LINES:
+            raise WrongCall(f"{form!r} is none of the forms {', '.join(FORMS)}")
         head, line = LINES[form]
         return head(self.header) + "".join(map(line, self.rows()))
 
@@ -88,7 +140,13 @@ class Table:
 
     def _repr_html_(self) -> str:
         """The table for notebooks."""
-        return html_table([self.header, *self.rows()])
+        count = -(-len(self.replies) // len(self.headings))
+        shown = list(range(count))
+        if count > FIRST_SHOWN + LAST_SHOWN:
+            left_out = [f".. {count - FIRST_SHOWN - LAST_SHOWN} more rows"]
+            shown[FIRST_SHOWN : count - LAST_SHOWN] = [-1]
+        rows = [left_out if number < 0 else self.row(number) for number in shown]
+        return html_table(self.header, rows)
 
     def progress(self) -> str:
         """How far the table is."""
@@ -98,19 +156,17 @@ class Table:
         """What the refusals and failures mean, once for each kind."""
         found: dict[str, list[int]] = {}
         for number, reply in enumerate(self.replies):
-            if reply.refused:
-                kind = getattr(reply, "cause", None) or getattr(reply, "kind")
-                found.setdefault(kind, []).append(number)
+            if isinstance(reply, Failed):
+                found.setdefault(reply.kind, []).append(number)
+            elif isinstance(reply, Refusal):
+                found.setdefault(reply.cause or reply.kind, []).append(number)
         for numbers in found.values():
             entry, reply = self.entries[numbers[0]], self.replies[numbers[0]]
-            word = "failed" if isinstance(reply, Failed) else "refused"
-            says = getattr(reply, "explain")(entry.question)
-            count = f"{len(numbers)} of {len(self.entries)} {word}"
-            yield f"{count}, as {entry.question} by {reply}: {says}{ADVICE.get(_kind(reply), '')}"
+            if isinstance(reply, (Failed, Refusal)):
+                word = "failed" if isinstance(reply, Failed) else "refused"
+                says = reply.explain(entry.question) + ADVICE.get(reply.kind, "")
+                count = f"{len(numbers)} of {len(self.entries)} {word}"
+                yield f"{count}, as {entry.question} by {reply}: {says}"
 
 
 ADVICE = {"full": " (--share gives each line more)", "positions": " (--positions sets the limit)"}
-
-
-def _kind(reply: Reply) -> str:
-    return str(getattr(reply, "kind", ""))

@@ -8,7 +8,7 @@ from typing import NamedTuple, Optional, Union
 
 from cgcalc.errors import WrongCall
 from cgcalc.pictures import thermograph_picture
-
+from cgcalc.tikz import tikz_of
 
 LEAST_HEIGHT = 40
 MOST_HEIGHT = 4_000
@@ -71,6 +71,10 @@ class Thermograph:
             most = f"from {LEAST_HEIGHT} to {MOST_HEIGHT}"
             raise WrongCall(f"the height is a number of pixels {most}, not {height!r}")
         return thermograph_picture(self, title=title, height=height).svg()
+
+    def tikz(self) -> str:
+        """A picture in TikZ, for papers."""
+        return tikz_of(self)
 
     def _repr_svg_(self) -> str:
         """The picture, for notebooks."""

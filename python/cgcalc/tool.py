@@ -5,11 +5,10 @@ import argparse
 import os
 import signal
 import sys
-from pathlib import Path
 from typing import Any, NoReturn
 
 from cgcalc.errors import WrongCall
-from cgcalc.limits import POSITIONS
+from cgcalc.limits import POSITIONS, SHARE
 
 REFUSED = 1
 BAD_USE = 2
@@ -33,11 +32,11 @@ class Words(argparse.ArgumentParser):
         tell(self.prog, f"{message} ({self.prog} --help tells the words)")
         sys.exit(BAD_USE)
 
-    def add_limits(self, share: int) -> None:
+    def add_limits(self) -> None:
         """Adds the options that say how much a question may take."""
-        cells = f"cells of the table for each line ({share})"
+        cells = f"cells of the table for each line ({SHARE})"
         items = f"the most items of one list ({POSITIONS})"
-        self.add_argument("--share", type=int, default=share, metavar="N", help=cells)
+        self.add_argument("--share", type=int, default=SHARE, metavar="N", help=cells)
         self.add_argument("--positions", type=int, default=POSITIONS, metavar="P", help=items)
 
     def add_runs(self) -> None:
@@ -46,6 +45,10 @@ class Words(argparse.ArgumentParser):
         size = "how much memory a run may take, as 500M or 2G"
         self.add_argument("--timeout", type=float, metavar="S", help=seconds)
         self.add_argument("--memory", type=bytes_of, metavar="SIZE", help=size)
+        own = "look replies up in a file and keep them there (~/.cache/cgcalc/replies.sqlite)"
+        named = "the same with a file of another name"
+        self.add_argument("--cache", action="store_const", const=True, help=own)
+        self.add_argument("--cache-file", dest="cache", metavar="FILE", help=named)
 
 
 def bytes_of(text: str) -> int:
@@ -86,33 +89,6 @@ def write_output(text: str) -> None:
     except OSError:
         os.dup2(os.open(os.devnull, os.O_WRONLY), sys.stdout.fileno())
         raise
-
-
-def write_whole(path: Path, text: str) -> None:
-    """Writes a file beside its place and moves it there, so that it is never seen half written."""
-    beside = path.with_name(path.name + ".new")
-    try:
-        beside.write_bytes(text.encode(errors="surrogateescape"))
-        place_whole(beside, path)
-    except BaseException:
-        beside.unlink(missing_ok=True)
-        raise
-
-
-def place_whole(beside: Path, path: Path) -> None:
-    """Gives a file its name when all of it is on the disk, so that no crash leaves a part of it."""
-    sync(beside)
-    os.replace(beside, path)
-    sync(path.parent)
-
-
-def sync(path: Path) -> None:
-    """Waits until a file, or the names in a folder, are on the disk."""
-    handle = os.open(path, os.O_RDONLY)
-    try:
-        os.fsync(handle)
-    finally:
-        os.close(handle)
 
 
 def status_of(failed: int) -> int:

@@ -3,16 +3,16 @@ from __future__ import annotations
 
 from dataclasses import dataclass
 from fractions import Fraction
-from typing import Iterable, TypeVar
+from typing import TypeVar
 
+from cgcalc.definitions import Names, one_meaning
 from cgcalc.errors import Refused
 from cgcalc.latex import latex_of
-from cgcalc.operands import Expression, text_of
+from cgcalc.operands import Expression, named, text_of
 from cgcalc.program import CgError
 from cgcalc.refusals import Refusal
 from cgcalc.replies import (
     Check,
-    Failed,
     Mean,
     Order,
     Outcome,
@@ -43,10 +43,14 @@ class Comparison:
     def __str__(self) -> str:
         return f"{self.left} {self.sign} {self.right}"
 
+    def latex(self) -> str:
+        """The comparison as papers write it, in LaTeX, for a formula."""
+        sign = SIGNS.get(self.sign, self.sign)
+        return f"{latex_of(self.left)} {sign} {latex_of(self.right)}"
+
     def _repr_latex_(self) -> str:
         """The comparison as papers write it, for notebooks."""
-        sign = SIGNS.get(self.sign, self.sign)
-        return f"${latex_of(self.left)} {sign} {latex_of(self.right)}$"
+        return f"${self.latex()}$"
 
 
 class TypedCalls:
@@ -55,8 +59,13 @@ class TypedCalls:
     A question that the program refuses raises `Refused`.
     """
 
-    def ask(self, lines: Iterable[str]) -> list[Reply]:
-        """The replies to questions, in their order."""
+    @property
+    def names(self) -> Names:
+        """What the names in texts stand for."""
+        raise NotImplementedError
+
+    def _ask_with(self, line: str, names: Names) -> Reply:
+        """The reply to a question in which names stand for games of their own."""
         raise NotImplementedError
 
     def value(self, expression: Expression) -> Value:
@@ -97,12 +106,11 @@ class TypedCalls:
         return self._answer(Check, "check", first, second, f'"{proof}"').accepted
 
     def _answer(self, kind: type[Answer], word: str, *parts: Expression) -> Answer:
-        line = f"{word} {' ; '.join(text_of(part) for part in parts)}"
-        (reply,) = self.ask([line])
+        texts, names = one_meaning([named(part, self.names) for part in parts])
+        line = f"{word} {' ; '.join(texts)}"
+        reply = self._ask_with(line, names)
         if isinstance(reply, Refusal):
             raise Refused(line, reply)
-        if isinstance(reply, Failed):
-            raise reply.error()
         if not isinstance(reply, kind):
             raise CgError(f"{line!r} asks for {kind.__name__}, and the reply is {reply!r}")
         return reply

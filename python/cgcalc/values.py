@@ -3,13 +3,13 @@ from __future__ import annotations
 
 from dataclasses import dataclass
 from fractions import Fraction
-from numbers import Rational
 from typing import Optional
 
-from cgcalc.errors import WrongCall
+from cgcalc.exact import exact_number
 from cgcalc.latex import latex_of
 from cgcalc.names import birthday_of, options_of, read_plain, with_bars
 from cgcalc.operands import Operand
+from cgcalc.tree_pictures import tree_picture
 
 
 @dataclass(frozen=True, eq=False)
@@ -74,11 +74,13 @@ class Value(Operand):
     def __eq__(self, other: object) -> bool:
         if isinstance(other, Value):
             return self.name == other.name
-        if isinstance(other, Rational):
-            return self.number == other
-        if isinstance(other, str):
-            raise WrongCall(f"a text is no value by itself: write Value({other!r}) behind the ==")
-        return NotImplemented
+        number = exact_number(other)
+        if number is None:
+            return NotImplemented
+        return self.number == number
+
+    def __bool__(self) -> bool:
+        return self.name != "0"
 
     def __hash__(self) -> int:
         return hash(self.name if self.number is None else self.number)
@@ -86,6 +88,18 @@ class Value(Operand):
     def __str__(self) -> str:
         return self.name
 
+    def latex(self) -> str:
+        r"""The value as papers write it, in LaTeX, for a formula.
+
+        >>> print(Value("{{4|2}|-1/2}").latex())
+        \{4 \mid 2 \parallel -\tfrac{1}{2}\}
+        """
+        return latex_of(with_bars(self.name))
+
+    def tree_svg(self, *, title: Optional[str] = None) -> str:
+        """A picture of the canonical form as a tree, in SVG; numbers stand for themselves."""
+        return tree_picture(self, title).svg()
+
     def _repr_latex_(self) -> str:
         """The value as papers write it, for notebooks."""
-        return f"${latex_of(with_bars(self.name))}$"
+        return f"${self.latex()}$"

@@ -23,6 +23,12 @@ def program(folder: Path, script: str) -> str:
     return str(path)
 
 
+def distinct(line: str, count: int) -> list[str]:
+    """So many lines that ask the same and differ by the blanks at their ends."""
+    digits = str.maketrans("01", " \t")
+    return [line + f"{number:b}".translate(digits) for number in range(count)]
+
+
 def environment(**changes: str) -> dict[str, str]:
     """The environment in which a command is tried."""
     return {**os.environ, "CG": find_program(), "PYTHONDONTWRITEBYTECODE": "1", **changes}

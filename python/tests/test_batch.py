@@ -1,6 +1,7 @@
 """Batches: small shares first, runs that fail, executors, and what is left behind."""
 from __future__ import annotations
 
+import multiprocessing
 import os
 import random
 import subprocess
@@ -16,7 +17,7 @@ from unittest import mock
 
 from cgcalc import CgError, Failed, Refusal, Session, Value, WrongCall, find_program
 from cgcalc.runs import environment
-from tests.places import ROOT, ended, program, waits
+from tests.places import ROOT, distinct, ended, program, waits
 
 FULL = Refusal("full")
 
@@ -81,12 +82,15 @@ class SmallSharesFirst(unittest.TestCase):
     def test_a_share_that_most_lines_need_is_asked_for_soon(self) -> None:
         with tempfile.TemporaryDirectory() as folder:
             words = Path(folder, "program.words")
-            noted = program(Path(folder), 'echo "$@" >> "$0.words"; exec "$REAL" "$@"')
+            script = 'cat > "$0.$$"; echo "$2 $(wc -l < "$0.$$")" >> "$0.words"'
+            noted = program(Path(folder), script + '; exec "$REAL" "$@" < "$0.$$"')
             session = Session(share=20_000, cells=200_000, processes=2, program=noted)
-            lines = ['value Domineering("....|....|....")'] * 600
+            lines = distinct('value Domineering("....|....|....")', 600)
             self.assertEqual(set(map(str, session.ask(lines))), set(at_once(lines[:1], 20_000)))
-            shares = [int(line.split()[1]) for line in words.read_text().splitlines()]
-        self.assertLess(len(shares), 100)
+            runs = [list(map(int, line.split())) for line in words.read_text().splitlines()]
+        small = [lines - 1 for cells, lines in runs if cells // (lines - 1) < 1_100]
+        self.assertEqual(small, [64])
+        self.assertLess(len(runs), 100)
 
 
 class Failures(unittest.TestCase):
@@ -123,9 +127,9 @@ class Failures(unittest.TestCase):
     def test_memory(self) -> None:
         self.assertEqual(Session(memory=1 << 30).ask(["value 1"]), [Value("1")])
         session = Session(memory=10_000_000, share=200_000)
-        self.assertEqual(session.ask(["value 1"] * 3), [Value("1")] * 3)
-        line = 'value Amazons("x...|....|...o")'
-        self.assertEqual(Session(memory=70_000_000, share=2_000_000).ask([line]), [Failed(5)])
+        self.assertEqual(session.ask(distinct("value 1", 3)), [Value("1")] * 3)
+        line = f'value Domineering("{"|".join(["....."] * 4)}")'
+        self.assertEqual(Session(memory=34_000_000, share=1_048_576).ask([line]), [Failed(5)])
 
     def test_wrong_limits(self) -> None:
         rows: list[tuple[dict[str, Any], str]] = [
@@ -165,7 +169,7 @@ class Leaving(unittest.TestCase):
     def test_a_context_that_is_left(self) -> None:
         session = Session(share=10, cells=10, processes=3, program=self.slow)
         threads = threading.active_count()
-        with session.replies(["value 1", *["value 2"] * 40]) as replies:
+        with session.replies(["value 1", *distinct("value 2", 40)]) as replies:
             self.assertEqual((next(replies), replies.done, replies.total), (Value("1"), 1, 41))
             self.assertTrue(waits(lambda: len(self.runs()) >= 2))
         self.assertTrue(waits(self.all_ended))
@@ -179,7 +183,8 @@ import time
 from concurrent.futures import ThreadPoolExecutor
 from cgcalc import Session
 limits = dict(share=10, cells=10, processes=3, program={self.slow!r})
-replies = Session(executor=EXECUTOR, **limits).replies(["value 1", *["value 2"] * 40])
+lines = [f"value {{n}}" for n in range(1, 42)]
+replies = Session(executor=EXECUTOR, **limits).replies(lines)
 print(next(replies), flush=True)
 while len(open({str(self.noted)!r}).read().split()) < 2: time.sleep(0.02)
 """
@@ -199,7 +204,7 @@ while len(open({str(self.noted)!r}).read().split()) < 2: time.sleep(0.02)
     def test_a_window_of_runs(self) -> None:
         noted = program(self.folder, 'echo >> "$0.count"; exec "$REAL" "$@"')
         session = Session(share=10, cells=10, processes=2, program=noted)
-        with session.replies(["value 1"] * 200) as replies:
+        with session.replies(distinct("value 1", 200)) as replies:
             self.assertEqual([next(replies) for _ in range(10)], [Value("1")] * 10)
             time.sleep(0.3)
             count = len((self.folder / "program.count").read_text())
@@ -249,6 +254,25 @@ class Executors(unittest.TestCase):
                 self.assertEqual(session.ask(["value 1"]), [Value("1")])
         with self.assertRaisesRegex(CgError, "the executor takes no run"):
             session.ask(["value 1"])
+
+    def test_processes_end_soon_when_nobody_waits_for_their_runs(self) -> None:
+        with tempfile.TemporaryDirectory() as folder:
+            script = 'read mark; read line; echo $$ >> "$0.runs"; [ "$line" = "value 1" ] || exec'
+            slow = program(Path(folder), script + ' sleep 1000; echo "2: 1"')
+            noted = Path(folder, "program.runs")
+            for way in ("fork", "spawn"):
+                noted.unlink(missing_ok=True)
+                context = multiprocessing.get_context(way)
+                with ProcessPoolExecutor(2, mp_context=context) as executor:
+                    session = Session(share=10, cells=10, program=slow, executor=executor)
+                    lines = [f"value {number}" for number in range(1, 40)]
+                    with session.replies(lines) as replies:
+                        self.assertEqual(next(replies), Value("1"))
+                        self.assertTrue(waits(lambda: noted.read_text().count("\n") >= 2))
+                    left = time.monotonic()
+                self.assertLess(time.monotonic() - left, 20)
+                runs = [int(line) for line in noted.read_text().split()]
+                self.assertTrue(waits(lambda: all(map(ended, runs))))
 
     def test_an_executor_that_loses_runs(self) -> None:
         for losses, answers in [(2, True), (3, False)]:

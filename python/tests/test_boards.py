@@ -24,7 +24,7 @@ from cgcalc import (
 )
 from cgcalc.board import read_board
 from cgcalc.svg import EITHER, LEFT, RIGHT
-from tests.png import rendered
+from tests.pixels import rendered
 from tests.test_pictures import SVG, colour
 
 RULES = ".=0,0,0;x=0,0,1;o=0,1,0;L:x.>.x;L:x..>..x;R:.o>o."
@@ -91,7 +91,7 @@ class Boards(unittest.TestCase):
             (lambda: domineering('..") + 5 + Toads("T'), "no quotation mark"),
             (lambda: clobber("x\u00f6"), "is no text of a board"),
             (lambda: clobber(5), "neither a text nor a list"),  # type: ignore[arg-type]
-            (lambda: clobber([1, 2]), "neither a text nor a list"),  # type: ignore[list-item]
+            (lambda: clobber(["x", 2]), r"\[1\] of a list of texts is none"),  # type: ignore
             (lambda: toads(None), "is no text of a board"),  # type: ignore[arg-type]
             (lambda: octal("0.77", -1), "a number such as 9"),
             (lambda: octal("0.77", "9"), "a number such as 9"),  # type: ignore[arg-type]

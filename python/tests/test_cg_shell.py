@@ -204,7 +204,7 @@ class Editing(unittest.TestCase):
     def test_words_by_what_stands_before_them(self) -> None:
         for before, begun, wanted in [
             ("", "out", ["outcome "]),
-            ("", ":s", [":share "]),
+            ("", ":s", [":save ", ":share "]),
             ("", "ga", ["gaz := "]),
             ("value 1 + ", "g", ["gaz"]),
             ("h := ", "Dom", ['Domineering("']),
@@ -398,3 +398,53 @@ class InAPipe(unittest.TestCase):
                 self.assertIn(told, message)
         status, written, message = run("cg-shell", [], changes={"CG": "/nowhere"})
         self.assertEqual((status, written, message.count("\n")), (2, "", 1))
+
+
+class Worksheets(unittest.TestCase):
+    """Expressions alone, and files of what was asked."""
+
+    def setUp(self) -> None:
+        holder = tempfile.TemporaryDirectory()
+        self.addCleanup(holder.cleanup)
+        self.sheet = Path(holder.name, "sheet")
+
+    def test_an_expression_alone_is_its_value(self) -> None:
+        typed = "{2,1|0}\ng := 1\ng + ^\n-2\nv3*\nTiny(2)\n  (g)\nClobber(\"xo\")\n"
+        written = "{2|0}\n1\n1^\n-2\nv3*\nTiny(2)\n1\n*\n"
+        self.assertEqual(run("cg-shell", [], typed), (0, written, ""))
+
+    def test_where_an_expression_is_refused(self) -> None:
+        status, written, _ = run("cg-shell", [], "{1,2}\nnobody\n3 +\nTiny(x)\n")
+        self.assertEqual(status, 1)
+        shown = "{1,2}\n    ^\n! syntax 5: no line"
+        self.assertTrue(written.startswith(shown), written)
+        self.assertIn("3 +\n   ^\n! syntax 4: the line ends too early\n", written)
+        self.assertIn("Tiny(x)\n     ^\n! syntax 6", written)
+        self.assertIn("nobody\n", written)
+
+    def test_a_worksheet_is_answered_by_the_program_and_by_the_shell(self) -> None:
+        typed = "{2,1|0}\ng := 1\nvalue g + ^\ng := {g|0}\nplot g\n{1,2}\n"
+        typed += f":save {self.sheet}\n"
+        _, written, _ = run("cg-shell", [], typed)
+        lines = self.sheet.read_text().splitlines()
+        self.assertEqual(lines[0], "cg 2")
+        replies = [line[2:] for line in lines if line.startswith("# ")]
+        asked = subprocess.run(
+            [find_program()], stdin=self.sheet.open(), stdout=subprocess.PIPE, check=False
+        )
+        answered = [line.partition(": ")[2] for line in asked.stdout.decode().splitlines()]
+        self.assertEqual(answered, replies)
+        self.assertEqual(answered[:4], ["{2|0}", "1", "1^", "{1|0}"])
+        _, again, _ = run("cg-shell", [], f":load {self.sheet}\n:names\n")
+        self.assertTrue(again.startswith("{2|0}\n1\n1^\n{1|0}\n"), again)
+        self.assertTrue(again.endswith("g := {g|0}\n"), again)
+
+    def test_files_that_are_none(self) -> None:
+        status, written, _ = run("cg-shell", [], f":load {self.sheet}\n1\n")
+        told = f"{self.sheet} can't be read: No such file or directory\n1\n"
+        self.assertEqual((status, written), (2, told))
+        status, written, _ = run("cg-shell", [], f":save {self.sheet}/deep\n")
+        self.assertEqual(status, 4)
+        self.assertIn("can't be written: No such file or directory", written)
+        self.sheet.write_text(":load sheet\n:quit\nvalue 2\n")
+        self.assertEqual(run("cg-shell", [], f":load {self.sheet}\n"), (0, "2\n", ""))

@@ -16,7 +16,6 @@ from unittest import mock
 
 from cgcalc import Session, WrongCall, domineering
 from cgcalc.cg_table import main
-from cgcalc.tool import write_whole
 from tests.places import ROOT, command, ended, environment, program, run, waits
 
 TEMPERATURES = ['temp Domineering("{board}")', "--fill", "."]
@@ -34,10 +33,12 @@ rows \\ columns   1    2     3     4
 def tried(words: Sequence[str], folder: str) -> tuple[int, str, str]:
     """Runs the command in this process: its status, what it wrote and what it told."""
     written, told, before = io.StringIO(), io.StringIO(), os.getcwd()
+    nothing = io.TextIOWrapper(io.BytesIO())
     os.chdir(folder)
     try:
         with redirect_stdout(written), redirect_stderr(told), mock.patch("signal.signal"):
-            status = main(words)
+            with mock.patch("sys.stdin", nothing):
+                status = main(words)
     except SystemExit as end:
         status = int(end.code or 0)
     finally:
@@ -164,7 +165,7 @@ class BadUse(unittest.TestCase):
             ([*SQUARES, "--rows", "4-1"], "rows is a number, a range such as 1-4, or a list"),
             ([*SQUARES, "--columns", "1,x"], "or a list such as 1,3,5, not '1,x'"),
             ([*SQUARES, "--columns", ""], "columns is a number, a range"),
-            ([*SQUARES, "--format", "html"], "invalid choice: 'html'"),
+            ([*SQUARES, "--format", "xml"], "invalid choice: 'xml'"),
             ([*SQUARES, "value {rows}", "--format", "grid"], "grid needs .* one question"),
             ([*SQUARES, "--define", "value 1"], "--define is a name, := and a game, not 'value 1'"),
             ([*SQUARES, "--define", "g := {1"], "g := {1 is refused by ! syntax 8: .* too early"),
@@ -294,12 +295,6 @@ class Further(unittest.TestCase):
         self.assertEqual((status, written), (124, "columns\tmean\n2\t2\n3\t! failed 124\n4\t4\n"))
         self.assertIn("cg was stopped, since it took too long", told)
 
-    def test_files_are_on_the_disk_before_they_take_their_name(self) -> None:
-        calls = mock.Mock()
-        with mock.patch("os.fsync", calls.sync), mock.patch("os.replace", calls.place):
-            write_whole(self.folder / "table", "text")
-        self.assertEqual([call[0] for call in calls.mock_calls], ["sync", "place", "sync"])
-
     def test_the_version(self) -> None:
         self.assertRegex(self.written("--version"), r"^cg-table \(cgcalc\) [0-9.]+\nprogram: /")
 
@@ -418,13 +413,12 @@ class Stopping(unittest.TestCase):
         words = [*SQUARES, "--resume", str(self.table)]
         first = 'temp Domineering(".")\t'
         for text, told in [
-            ("", "kept with other limits or definitions"),
             ("cg-table --share 9 --positions 9\n", "kept with other limits or definitions"),
             ("{header}" + first + "{bad}\n", "is spoilt"),
             ("{header}value 1\t1\n", "is of another table: it has the question 'value 1'"),
             ("{header}" + (first + "-1\n") * 17, "it has more replies than this one"),
         ]:
-            text = text.replace("{header}", "cg-table --share 262144 --positions 65536\n")
+            text = text.replace("{header}", "cg-table --share 1048576 --positions 65536\n")
             self.part.write_text(text)
             with self.subTest(text=text):
                 status, written, message = run("cg-table", words)
@@ -448,5 +442,6 @@ class Stopping(unittest.TestCase):
             )
         self.assertEqual(
             (done.returncode, done.stderr),
-            (4, b"cg-table: writing failed: No space left on device\n"),
+            (4, b"cg-table: writing failed: No space left on device, after 0 of 16 questions; "
+             b"with --output a later run could go on from there\n"),
         )

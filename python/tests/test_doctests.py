@@ -4,22 +4,30 @@ from __future__ import annotations
 import doctest
 import importlib
 import pkgutil
-import unittest
+from typing import Iterator
+
+import pytest
 
 import cgcalc
 from tests.places import ROOT
 
+PAGES = ("python/README.md", "docs/TOOLS.md", "docs/BATCHES.md")
 
-def load_tests(
-    loader: unittest.TestLoader, tests: unittest.TestSuite, pattern: object
-) -> unittest.TestSuite:
-    """One test for each docstring that has examples."""
-    modules = [
-        cgcalc.__name__,
-        *(f"cgcalc.{found.name}" for found in pkgutil.iter_modules(cgcalc.__path__)),
-    ]
-    for name in modules:
-        tests.addTests(doctest.DocTestSuite(importlib.import_module(name)))
-    for page in ("python/README.md", "docs/TOOLS.md", "docs/BATCHES.md"):
-        tests.addTests(doctest.DocFileSuite(str(ROOT / page), module_relative=False))
-    return tests
+
+def examples() -> Iterator[doctest.DocTest]:
+    """The examples: those of a docstring, or of a page, together."""
+    names = [found.name for found in pkgutil.walk_packages(cgcalc.__path__, "cgcalc.")]
+    for name in [cgcalc.__name__, *names]:
+        module = importlib.import_module(name)
+        found = doctest.DocTestFinder(exclude_empty=True).find(module, name)
+        yield from (test for test in found if test.examples)
+    for page in PAGES:
+        text = (ROOT / page).read_text()
+        yield doctest.DocTestParser().get_doctest(text, {}, page, page, 0)
+
+
+@pytest.mark.parametrize("test", [pytest.param(test, id=test.name) for test in examples()])
+def test_examples(test: doctest.DocTest) -> None:
+    told: list[str] = []
+    result = doctest.DocTestRunner().run(test, out=told.append)
+    assert result.attempted and not result.failed, "".join(told)

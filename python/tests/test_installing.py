@@ -14,7 +14,8 @@ from pathlib import Path
 from typing import Optional
 
 import cgcalc
-from cgcalc.version import KIT, VERSION
+from cgcalc import find_program
+from cgcalc.version import VERSION, checksum, proof_text
 from tests.places import ROOT, environment
 
 NEEDED = ("ensurepip", "setuptools", "wheel")
@@ -78,8 +79,9 @@ class Installing(unittest.TestCase):
             names = archive.namelist()
             metadata = archive.read(f"cgcalc-{VERSION}.dist-info/METADATA").decode()
         packed = sorted(name for name in names if name.startswith("cgcalc/"))
-        sources = (self.folder / "python" / "cgcalc").iterdir()
-        self.assertEqual(packed, sorted(f"cgcalc/{path.name}" for path in sources))
+        python = self.folder / "python"
+        sources = (path for path in (python / "cgcalc").rglob("*") if path.is_file())
+        self.assertEqual(packed, sorted(str(path.relative_to(python)) for path in sources))
         self.assertIn("cgcalc/py.typed", packed)
         for licence in ("LICENSE-APACHE", "LICENSE-MIT"):
             self.assertTrue(any(name.endswith(licence) for name in names), licence)
@@ -93,14 +95,16 @@ class Installing(unittest.TestCase):
             "Classifier: Typing :: Typed",
         ):
             self.assertIn(f"{line}\n", metadata)
-        self.assertNotIn("Requires-Dist", metadata)
+        self.assertNotRegex(metadata, "(?m)^Requires-Dist: (?!.*; extra ==)")
 
         self.pip("install", *OFFLINE, str(wheel))
         self.assertTrue(self.imported().startswith(str(self.folder / "venv")))
         for command in COMMANDS:
             told = self.run_there(command, "--version").splitlines()
             self.assertEqual(told[0], f"{command} (cgcalc) {VERSION}")
-            self.assertEqual(told[2], f"proved with: {KIT}")
+            program = find_program()
+            self.assertEqual(told[1:3], [f"program: {program}", f"sha256: {checksum(program)}"])
+            self.assertIn(told[3], (proof_text(program), UNKNOWN))
         self.assertEqual(self.run_there("cg-shell", typed="value {2,1|0}\n"), "{2|0}\n")
         self.assertEqual(self.run_there("cg-table", "mean {columns}", "--columns", "2"), TABLE)
         self.assertIn("</svg>", self.run_there("cg-plot", "{2|0}"))
@@ -127,15 +131,14 @@ class Installing(unittest.TestCase):
             self.assertIn(f"cgcalc-{VERSION}/{path}", names)
 
 
+UNKNOWN = "unknown program: no record of a proof has its checksum"
 TABLE = "columns\tmean\n2\t2\n"
 
 
 class Version(unittest.TestCase):
-    """The version and the kit are told once."""
+    """The version is told once."""
 
     def test_the_version(self) -> None:
         self.assertEqual(cgcalc.__version__, VERSION)
         self.assertRegex(VERSION, r"^[0-9]+\.[0-9]+\.[0-9]+$")
-
-    def test_the_kit_is_that_of_the_readme(self) -> None:
-        self.assertIn(f"It is proved with `{KIT}`", (ROOT / "README.md").read_text())
+        self.assertEqual((ROOT / "python/cgcalc/VERSION").read_text(), f"{VERSION}\n")

@@ -20,6 +20,7 @@ ROWS = [
     ("2^", r"2 + {\uparrow}"),
     ("1 - 2^*", r"1 - (2 + {\uparrow}{\ast})"),
     ("- 2^", r"-(2 + {\uparrow})"),
+    ("1-2^", r"1 - (2 + {\uparrow})"),
     ("+-1", r"{\pm}1"),
     ("1 + +-3/2", r"1 + {\pm}\tfrac{3}{2}"),
     ("1+-1", "1 - 1"),
@@ -29,7 +30,7 @@ ROWS = [
     ("{4||2|0}", r"\{4 \parallel 2 \mid 0\}"),
     ("{a,b|||1}", r"\{\mathit{a}, \mathit{b} \mathrel{|||} 1\}"),
     ("3.{1|0}", r"3 \cdot \{1 \mid 0\}"),
-    ('Domineering("..|#.")', r"\text{Domineering}(\texttt{..|\#.})"),
+    ('Domineering("..|#.")', r"\text{Domineering}(\mathtt{..|\#.})"),
     ("g2 - (1 + *)", r"\mathit{g2} - (1 + {\ast})"),
 ]
 

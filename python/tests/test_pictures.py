@@ -10,13 +10,13 @@ from xml.etree import ElementTree
 from cgcalc import Corner, Game, Session, Thermograph, WrongCall
 from cgcalc.svg import INK, LEFT, RIGHT
 from tests.places import ROOT, run
-from tests.png import Pixel, Png, rendered
+from tests.pixels import Pixel, Pixels, rendered
 
 SVG = "{http://www.w3.org/2000/svg}"
 ZOOM = 2
 THREE = {
     "domineering": 'Domineering("...|...")',
-    "sente": "{4||2|0}",
+    "sente": "{4||2|-4}",
     "two-sided": "{{{20|2}|1}|{-1||-2|-30}}",
 }
 STONES = ".=0,0,0;x=0,0,1;o=0,1,0;L:x.>.x;L:x..>..x;R:.o>o."
@@ -40,7 +40,7 @@ DRAWN = {
 EXPRESSIONS = [
     *THREE.values(),
     *("1/2", "^", "{1000|-1000}", "{3|1||0|-5}", "{10|9||0|-1} + {3||1|0}", "{9|-{8|-1/8}}"),
-    *("18446744073709551615", 'Domineering(".....|.....|.....")'),
+    *("{4||2|0}", "18446744073709551615", 'Domineering(".....|.....|.....")'),
 ]
 
 
@@ -55,7 +55,7 @@ class Seen:
     def __init__(self, thermograph: Thermograph) -> None:
         self.svg = thermograph.svg(height=130)
         self.root = ElementTree.fromstring(self.svg)
-        self.png: Png = rendered(self.svg, ZOOM)
+        self.png: Pixels = rendered(self.svg, ZOOM)
         self.shift = sum(
             float(group.attrib["transform"][len("translate(") :].split(",")[0])
             for group in self.root.iter(f"{SVG}g")

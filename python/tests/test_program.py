@@ -1,7 +1,10 @@
 """Where the program is found, and how runs of it fail."""
 from __future__ import annotations
 
+import hashlib
 import os
+import subprocess
+import sys
 import tempfile
 import unittest
 from pathlib import Path
@@ -16,11 +19,12 @@ from cgcalc import (
     Session,
     find_program,
 )
+from cgcalc.version import RECORD, checksum, version_text
 from tests.places import program
 
 
 class FindProgram(unittest.TestCase):
-    """The program is looked for in the environment, on the path, and where it is built."""
+    """The program is looked for in the environment, in the package, in its clone, on the path."""
 
     def setUp(self) -> None:
         holder = tempfile.TemporaryDirectory()
@@ -29,7 +33,7 @@ class FindProgram(unittest.TestCase):
         self.addCleanup(os.chdir, os.getcwd())
         os.chdir(self.folder)
 
-    def built(self, *names: str) -> str:
+    def made(self, *names: str) -> str:
         path = self.folder.joinpath(*names)
         path.parent.mkdir(parents=True, exist_ok=True)
         path.write_text("#!/bin/sh\n")
@@ -37,34 +41,100 @@ class FindProgram(unittest.TestCase):
         return str(path)
 
     def found(self, **environment: str) -> str:
+        package = self.folder / "clone" / "python" / "cgcalc"
         with mock.patch.dict(os.environ, {"PATH": "", "CG": "", **environment}):
-            with mock.patch("cgcalc.program.__file__", str(self.folder / "cgcalc" / "program.py")):
+            with mock.patch("cgcalc.program.__file__", str(package / "program.py")):
                 return find_program()
 
-    def test_the_environment_comes_first(self) -> None:
-        named, _ = self.built("named"), self.built("bin", "cg")
-        self.assertEqual(self.found(CG=named, PATH=str(self.folder / "bin")), named)
+    def test_each_place_in_its_turn(self) -> None:
+        on_path = {"PATH": str(self.folder / "bin")}
+        places = [("bin", "cg"), ("clone", "crates", "cg", "out", "cg")]
+        for place in [*places, ("clone", "python", "cgcalc", "cg")]:
+            with self.subTest(place):
+                made = self.made(*place)
+                self.assertEqual(self.found(**on_path), made)
+        named = self.made("named")
+        self.assertEqual(self.found(CG=named, **on_path), named)
 
-    def test_the_path_comes_before_what_is_built(self) -> None:
-        on_path, _ = self.built("bin", "cg"), self.built("crates", "cg", "out", "cg")
-        self.assertEqual(self.found(PATH=str(self.folder / "bin")), on_path)
-
-    def test_what_is_built_above_the_working_directory(self) -> None:
-        built = self.built("crates", "cg", "out", "cg")
+    def test_nothing_is_run_from_above_the_working_directory(self) -> None:
+        self.made("crates", "cg", "out", "cg")
         below = self.folder / "a" / "b"
         below.mkdir(parents=True)
         os.chdir(below)
-        self.assertEqual(self.found(), built)
+        with self.assertRaises(ProgramMissing):
+            self.found()
+
+    def test_a_relative_name_stays_the_same_file(self) -> None:
+        named = self.made("near", "it")
+        self.assertEqual(self.found(CG="near/it"), named)
+        os.chdir("/")
+        self.assertEqual(self.found(CG="near/it"), named)
+
+    def test_a_name_counts_from_where_the_package_was_loaded(self) -> None:
+        named = self.made("near", "it")
+        script = "import os, cgcalc; os.chdir('/'); print(cgcalc.find_program())"
+        python = str(Path(find_program.__code__.co_filename).parents[1])
+        done = subprocess.run(
+            [sys.executable, "-c", script],
+            capture_output=True,
+            env={**os.environ, "CG": "./near/it", "PYTHONPATH": python},
+            check=True,
+        )
+        self.assertEqual(done.stdout.decode(), f"{named}\n")
+
+    def test_a_relative_folder_of_the_path(self) -> None:
+        made = self.made("bin", "cg")
+        self.assertEqual(self.found(PATH="bin"), made)
 
     def test_a_wrong_name_in_the_environment(self) -> None:
-        with self.assertRaisesRegex(ProgramMissing, "CG in the environment names /nowhere"):
-            self.found(CG="/nowhere")
+        for name, told in [("/nowhere", "/nowhere"), ("no/such", f"{self.folder}/no/such")]:
+            with self.assertRaisesRegex(ProgramMissing, f"CG in the environment names {told}, "):
+                self.found(CG=name)
+        self.made("bin", "cg")
+        with self.assertRaisesRegex(ProgramMissing, f"names {self.folder}/bin, which is no"):
+            self.found(CG="./bin")
 
     def test_nothing_is_found(self) -> None:
-        with self.assertRaisesRegex(
-            ProgramMissing, "the program cg isn't found: put it on the path"
-        ):
+        told = "the program cg isn't found: put it on the path, .*clone/python/cgcalc/cg"
+        with self.assertRaisesRegex(ProgramMissing, told):
             self.found()
+
+
+class Proofs(unittest.TestCase):
+    """A program is known by its checksum."""
+
+    def told(self, record: str, **named: str) -> list[str]:
+        with tempfile.TemporaryDirectory() as name:
+            built = Path(name) / "crates" / "cg" / "out"
+            built.mkdir(parents=True)
+            (built / "cg").write_text("#!/bin/sh\n")
+            (built / "cg").chmod(0o755)
+            (built / RECORD).write_text(record)
+            module = str(Path(name) / "python" / "cgcalc" / "program.py")
+            with mock.patch.dict(os.environ, {"PATH": "", "CG": "", **named}):
+                with mock.patch("cgcalc.program.__file__", module):
+                    return version_text("cg-shell").replace(name, "..").splitlines()
+
+    def test_what_is_proved_and_what_is_not(self) -> None:
+        digits = hashlib.sha256(b"#!/bin/sh\n").hexdigest()
+        record = f"program: cg 9.8.7\ncommit: 0123\nkit: a kit\nsha256: {digits}\n\nsha256: 00\n"
+        known = ["program: ../crates/cg/out/cg", f"sha256: {digits}"]
+        unknown = "unknown program: no record of a proof has its checksum"
+        proved = "proved: cg 9.8.7 by a kit, commit 0123"
+        self.assertEqual(self.told(record)[1:], [*known, proved])
+        for other in (record.replace(digits, digits[:-1]), "", f"\n\n{record}", "\0"):
+            self.assertEqual(self.told(other)[1:], [*known, unknown])
+        self.assertEqual(self.told(record, CG="/bin/true")[3], unknown)
+
+    def test_there_is_none(self) -> None:
+        self.assertRegex(self.told("", CG="/nowhere")[1], "^program: none; CG .* names /nowhere,")
+
+    def test_a_changed_file_has_another_checksum(self) -> None:
+        with tempfile.TemporaryDirectory() as name:
+            path = Path(name, "file")
+            for text in ("a", "bc"):
+                path.write_text(text)
+                self.assertEqual(checksum(str(path)), hashlib.sha256(text.encode()).hexdigest())
 
 
 class Failures(unittest.TestCase):
@@ -114,7 +184,8 @@ class Failures(unittest.TestCase):
 
     def test_another_program(self) -> None:
         for script, question, told in [
-            ("exec cat", "value 1", "is it cg"),
+            ("exec cat", "value 1", "no answers to 1 lines: is it cg"),
+            ("echo no GLIBC_9 >&2; exit 1", "value 1", r"1 lines \(no GLIBC_9\): is it cg"),
             ("echo 2: 3/0", "mean 1", "is no reply: '3/0'"),
         ]:
             with self.assertRaisesRegex(CgError, told):

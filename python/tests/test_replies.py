@@ -109,3 +109,14 @@ class Replies(unittest.TestCase):
         refusals += [Refusal("board", cause=cause, place=7) for cause in causes]
         sentences = {refusal.explain() for refusal in refusals}
         self.assertEqual(len(sentences), len(refusals))
+
+
+class NoValues(unittest.TestCase):
+    """Not every text is the name of a value."""
+
+    def test_texts_that_are_no_names(self) -> None:
+        for text in ("yes", "", "{1|", "1}", "left 1 right 2", "Domineering", "g", "Tiny"):
+            with self.subTest(text=text), self.assertRaises(ValueError):
+                read_reply("value 1", text)
+        for text in ("-1/2^3*2", "{2,{3|1}|0}", "+-3/4", "Tiny(1/2)", "{Miny(2),v|*}", "{|}"):
+            self.assertEqual(str(read_reply("value 1", text)), text)

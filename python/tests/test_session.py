@@ -9,8 +9,8 @@ import unittest
 from fractions import Fraction
 from pathlib import Path
 
-from cgcalc import Mean, Outcome, Refusal, Session, Value, find_program
-from tests.places import EXAMPLES, program
+from cgcalc import Definition, Mean, Outcome, Refusal, Session, Value, find_program
+from tests.places import EXAMPLES, distinct, program
 
 RECORD = 'echo "$@" >> "$0.words"; tee "$0.$$" | "$REAL" "$@"'
 
@@ -64,7 +64,8 @@ class Questions(unittest.TestCase):
             for number, line in enumerate(lines, 1):
                 name, sign, text = line.partition(" := ")
                 if line.strip() and not line.startswith("#") and line != "cg 2":
-                    reply = session.define(name, text) if sign else session.ask([line])[0]
+                    definition = Definition(name, text)
+                    reply = session.bind(definition) if sign else session.ask([line])[0]
                     got.append(f"{number}: {reply}\n")
             with self.subTest(path=path.name):
                 self.assertEqual("".join(got), wanted.stdout.decode())
@@ -78,7 +79,7 @@ class Shares(unittest.TestCase):
         self.assertEqual(Session(share=4).ask(["value {0|0}"]), [Refusal("full")])
 
     def test_many_lines(self) -> None:
-        lines = ["value {0|0}"] * 10_000
+        lines = distinct("value {0|0}", 10_000)
         self.assertEqual(set(Session(share=5).ask(lines)), {Value("*")})
         self.assertEqual(set(Session(share=4).ask(lines)), {Refusal("full")})
 
@@ -86,7 +87,7 @@ class Shares(unittest.TestCase):
         session = Session(share=5)
         self.assertEqual(session.define("g", "{0|0}"), Value("*"))
         self.assertEqual(session.ask(["value g", "value g + 0"]), [Value("*"), Refusal("full")])
-        self.assertEqual(session.define("h", "g + 0"), Refusal("full"))
+        self.assertEqual(session.bind(Definition("h", "g + 0")), Refusal("full"))
         self.assertEqual(session.ask(["outcome h", "outcome g"]), [Refusal("full"), Outcome("N")])
 
     def test_the_positions_limit(self) -> None:
@@ -103,9 +104,10 @@ class Shares(unittest.TestCase):
 
     def test_too_large_a_table(self) -> None:
         with tempfile.TemporaryDirectory() as folder:
-            session = Session(share=40_000_000, program=program(Path(folder), "echo 2: 1"))
-            session.define("g", "1")
-            self.assertEqual(session.ask(["value 1"]), [Value("1")])
+            full = 'n=1; read mark; while read line; do n=$((n+1)); echo "$n: ! full"; done; exit 1'
+            session = Session(share=40_000_000, program=program(Path(folder), full))
+            session.bind(Definition("g", "1"))
+            self.assertEqual(session.ask(["value 1"]), [Refusal("full")])
             with self.assertRaisesRegex(ValueError, "80000000 cells, and 67108864 are the most"):
                 session.ask(["value g"])
 
@@ -138,20 +140,21 @@ class Cutting(unittest.TestCase):
 
     def test_few_questions_share_one_run_and_all_processors(self) -> None:
         session = Session(share=1_000, processes=3, program=self.program)
-        session.ask(["value 1", "value 2"])
+        session.ask(["value 1", "value 2", "value 3"])
         self.assertEqual(
-            self.runs(), [["--cells", "2001", "--positions", "65536", "--workers", "3"]]
+            self.runs(), [["--cells", "3001", "--positions", "65536", "--workers", "3"]]
         )
 
     def test_no_run_has_too_many_lines(self) -> None:
         session = Session(share=1, processes=1, program=self.program)
-        self.assertEqual(len(session.ask(["value 1"] * 5_000)), 5_000)
-        self.assertEqual(sorted(text.count("\n") for text in self.sessions()), [905, 4_097])
+        self.assertEqual(len(session.ask(distinct("value 1", 12_000))), 12_000)
+        sizes = sorted(text.count("\n") for text in self.sessions())
+        self.assertEqual(sizes, [*[1_025] * 4, 3_809, 4_097])
 
     def test_no_run_has_too_many_bytes(self) -> None:
         session = Session(share=10, processes=1, program=self.program)
-        lines = ["value 1" + " " * 300_000] * 7
-        self.assertEqual(set(session.ask(lines)), {Value("1")})
+        lines = [f"value {number}" + " " * 300_000 for number in range(7)]
+        self.assertEqual(len(set(session.ask(lines))), 7)
         self.assertEqual(sorted(text.count("\n") for text in self.sessions()), [2, 4, 4])
 
     def test_definitions_stand_before_each_piece_that_needs_them(self) -> None:
@@ -187,7 +190,7 @@ class Definitions(unittest.TestCase):
             ("d", "6/3", "! range", True),
         ]:
             with self.subTest(name=name):
-                self.assertEqual(str(session.define(name, text)), reply)
+                self.assertEqual(str(session.bind(Definition(name, text))), reply)
                 self.assertEqual(name in session.definitions, binds)
         replies = [str(reply) for reply in session.ask(["value c", "value d", "value a"])]
         self.assertEqual(replies, ["! board symbol 2", "! range", "! name 7"])

@@ -145,8 +145,9 @@ class AsObjects(unittest.TestCase):
         half: dict[object, str] = {Fraction(1, 2): "half"}
         self.assertEqual(half[Game("{0|1}").value], "half")
         self.assertEqual(len({Value("^"), Game("{0|*}"), Game("^"), 0, Game("* + *")}), 2)
-        with self.assertRaisesRegex(WrongCall, r"write Value\('\*'\)"):
-            self.assertFalse(Value("*") == "*")
+        self.assertNotEqual(Value("*"), "*")
+        self.assertNotIn(Value("1"), ["1", 1.5, None])
+        self.assertEqual([bool(Value(name)) for name in ("0", "1", "*")], [False, True, True])
 
     def test_sums_with_values_are_games(self) -> None:
         value = Game("{2|-1}").value
