@@ -1,0 +1,104 @@
+"""refuse-input-output and stack-bound fail on what they are there for."""
+import os
+import shutil
+import subprocess
+
+from test_checks import REAL, Tried
+
+
+class InputOutput(Tried):
+    """refuse-input-output, with programs that meet a fault otherwise than they should."""
+
+    def fault(self, script, *told):
+        """The check fails with the program that the script is, and tells these faults."""
+        ended, written = self.run_tool("refuse-input-output", "1", program=self.program(script))
+        self.assertEqual(ended, 1, written)
+        for text in told:
+            self.assertIn(text, written)
+
+    def test_the_real_program(self):
+        ended, written = self.run_tool("refuse-input-output", "2")
+        self.assertEqual(ended, 0, written)
+        self.assertIn("8 of them with calls that failed, 0 ended wrong", written)
+
+    def test_a_status_that_is_lost(self):
+        self.fault('"$REAL" "$@"; exit 0', "call 1 of read fails by EAGAIN: (0, b'', b'')",
+                   "call 1 of write fails by EAGAIN: (0, b'', b'')", "a reader goes away at byte 0: (0, b'', b'')",
+                   "/dev/full: (0, None, b'')", "a file of at most 0 bytes: (0, b'', b'')", "closed output: (0, b'', b'')",
+                   "closed input: (0, b'', b'')", "an input that is a folder: (0, b'', b'')")
+
+    def test_another_status(self):
+        self.fault('"$REAL" "$@"; ended=$?; [ $ended = 4 ] && exit 3; exit $ended', "/dev/full: (3, None, b'')")
+
+    def test_words_on_standard_error(self):
+        self.fault('"$REAL" "$@"; ended=$?; [ $ended = 3 ] && echo fault >&2; exit $ended',
+                   "an input that is a folder: (3, b'', b'fault\\n')")
+
+    def test_answers_that_are_others(self):
+        self.fault('"$REAL" "$@" | sed "s/2/3/"; exit 4', "a file of at most 353 bytes: (4, b'3: ^*")
+
+    def test_a_reader_that_goes_away(self):
+        self.fault('"$REAL" "$@" > "$0.text"; cat "$0.text"', "a reader goes away at byte 0: (141, b'', b'')")
+
+    def test_no_call_fails(self):
+        self.fault('unset LD_PRELOAD; exec "$REAL" "$@"', "no call failed")
+
+    def test_a_fault_that_is_not_told(self):
+        """After a call that failed the answers are written anew."""
+        self.fault('LD_PRELOAD= cat > "$0.in"; "$REAL" "$@" < "$0.in" > "$0.text"; ended=$?; [ $ended = 4 ] || exit $ended\n'
+                   'LD_PRELOAD= exec "$REAL" "$@" < "$0.in"', "call 1 of write fails by EAGAIN: (0, b'2: ^*")
+
+
+class Stack(Tried):
+    """stack-bound, with programs that it can't answer for."""
+
+    def built(self, source, *words):
+        """A program in C, built without improvements."""
+        path = os.path.join(self.folder, "built")
+        with open(path + ".c", "w", encoding="utf-8") as file:
+            file.write(source)
+        subprocess.run(["cc", "-O0", "-o", path, path + ".c", *words], check=True)
+        return path
+
+    def spoilt(self, before, behind):
+        """The tools, with a text of stack-bound replaced."""
+        top = self.copied()
+        path = os.path.join(top, "tools", "stack-bound")
+        with open(path, encoding="utf-8") as file:
+            text = file.read()
+        self.assertEqual(text.count(before), 1, before)
+        with open(path, "w", encoding="utf-8") as file:
+            file.write(text.replace(before, behind))
+        return top
+
+    def test_the_real_program(self):
+        ended, written = self.run_tool("stack-bound", "--run")
+        self.assertEqual(ended, 0, written)
+        self.assertIn("the deepest inputs are answered at ulimit -s", written)
+
+    def test_a_recursion_without_a_depth(self):
+        top = self.spoilt('    ("cg_eval::evaluate::", 1_024, "levels of an expression"),\n', "")
+        self.fails("cg_eval::evaluate::", "stack-bound", top=top)
+        self.fails("NO DEPTH IS KNOWN", "stack-bound", top=top)
+
+    def test_recursions_are_seen(self):
+        source = "int g(int);\nint f(int n) { return n ? g(n - 1) + 1 : 0; }\nint g(int n) { return n ? f(n - 1) + 2 : 0; }\n"
+        program = self.built(source + "int main(void) { return f(3); }\n")
+        self.fails("0  f: NO DEPTH IS KNOWN", "stack-bound", program=program)
+
+    def test_what_can_not_be_read(self):
+        program = self.built("int main(int n, char **w) { int (*f)(int, char **) = w[n] ? main : 0; return f(n, w); }\n")
+        self.fails("main has what can't be read: call", "stack-bound", program=program)
+        program = self.built("int f(int n) { char a[n]; a[0] = 1; return a[0]; }\nint main(int n, char **w) { return f(n); }\n",
+                             "-fno-stack-clash-protection")
+        self.fails("f has what can't be read: sub", "stack-bound", program=program)
+
+    def test_a_program_without_names(self):
+        path = os.path.join(self.folder, "stripped")
+        shutil.copy(REAL, path)
+        subprocess.run(["strip", path], check=True)
+        self.fails("where the first thread begins can't be found", "stack-bound", program=path)
+
+    def test_too_little_stack(self):
+        top = self.spoilt("twice = -(-most // 512)", "twice = 200")
+        self.fails("sums by names, 64 workers: not answered at ulimit -s 200", "stack-bound", "--run", top=top)
