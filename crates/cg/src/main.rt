@@ -16,8 +16,7 @@ fn words(rt: &(impl env::Env + AllocGlobal), alloc: Global) -> io::Result<Vec<St
     Ok(words)
 }
 
-/// The number that the program ends with where it can't get its words: 5 where memory was wanting, and 7 for any other
-/// cause, as a word that isn't UTF-8.
+/// The exit status if the words can't be read: 5 if memory ran out, otherwise 7, as for a word that isn't UTF-8.
 fn code_without_words(fault: &io::Error) -> u8 {
     if fault.kind() == io::ErrorKind::OutOfMemory {
         5
@@ -26,7 +25,7 @@ fn code_without_words(fault: &io::Error) -> u8 {
     }
 }
 
-/// Runs a session from standard input to standard output, and ends with the number of its status.
+/// Runs a session from standard input to standard output. The exit status is the number of its status.
 fn main(rt: HostRuntime) -> ExitCode {
     let alloc = rt.alloc();
     let words = match words(&rt, alloc) {

@@ -4,7 +4,7 @@ ghost use Rattle.cg_cells.specs.Layout.{IsLink, id_field, num_field, NumFits};
 
 use crate::Id;
 
-/// Where a field starts, as the power of two by which it is multiplied: the kind.
+/// Each constant is the power of two at which a field starts. This one is for the kind.
 pub(crate) const KIND: u64 = 1 << 61;
 /// The exponent of a number, above the 53 bits of its numerator.
 pub(crate) const EXPONENT: u64 = 1 << 53;
@@ -32,7 +32,6 @@ pub(crate) fn field_of(id: Option<Id>) -> u64
     }
 }
 
-/// The id in the field, where the field holds one or is 0.
 pub(crate) fn link_in(field: u64) -> Option<Id>
     ensures { (o : Option ℕ) → IsLink o → id_field o ≡ field → result ≡ o }
 {
@@ -43,7 +42,6 @@ pub(crate) fn link_in(field: u64) -> Option<Id>
     }
 }
 
-/// The id in the field, where the field holds one.
 pub(crate) fn id_in(field: u64) -> Id
     ensures { (i : ℕ) → i < 2 ^ 26 → i + 1 ≡ field → result ≡ i }
 {
@@ -66,7 +64,7 @@ pub(crate) fn bits_of(num: i64) -> u64
     }
 }
 
-/// The numerator in these 53 bits, where one is there.
+/// The inverse of `bits_of`.
 pub(crate) fn num_in(bits: u64) -> i64
     requires { bits < 2 ^ 53 }
     ensures { (num : ℤ) → NumFits num → num_field num ≡ bits → result ≡ num }

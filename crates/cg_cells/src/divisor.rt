@@ -3,8 +3,8 @@ ghost use Rattle.std.specs.Prelude.{◌≡◌, ◌+◌, ◌*◌, ◌%◌, ◌<�
 
 use std::marker::Model;
 
-/// A number of at least 1 by which many remainders are taken, with its reciprocal, so that a
-/// remainder takes two products in place of a division. Contracts see it as the number.
+/// A number of at least 1 and its reciprocal, so that a remainder takes two products in place of a division. Contracts
+/// see the number.
 #[derive(Drop)]
 pub struct Divisor {
     number: u64,
@@ -22,7 +22,6 @@ impl Model for Divisor {
 }
 
 impl Divisor {
-    /// The divisor that is this number.
     pub fn new(number: u64) -> Divisor
         requires { 1 ≤ number }
         ensures { result ≡ number }
@@ -33,7 +32,6 @@ impl Divisor {
         }
     }
 
-    /// The number.
     pub fn number(&self) -> u64
         ensures value { result ≡ self.now }
         ensures positive { 1 ≤ self.now }
@@ -41,7 +39,7 @@ impl Divisor {
         self.number
     }
 
-    // As many times as the divisor goes into the number, or once less.
+    // The quotient, or one less.
     fn times_in(&self, number: u64) -> u64
         ensures low { result * self.now ≤ number }
         ensures high { number < result * self.now + self.now + self.now }
@@ -49,7 +47,6 @@ impl Divisor {
         ((number as u128 * self.reciprocal as u128) >> 64) as u64
     }
 
-    /// What is left of a number once the divisor was taken away as often as it goes into it.
     pub fn remainder(&self, number: u64) -> u64
         ensures value { result ≡ number % self.now }
         ensures below { result < self.now }

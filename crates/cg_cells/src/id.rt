@@ -1,4 +1,3 @@
-//! The number of a cell.
 ghost use Rattle.std.specs.Prelude.{◌≡◌, ◌<◌, ◌^◌};
 
 use std::marker::Model;
@@ -22,7 +21,6 @@ impl Model for Id {
 }
 
 impl Id {
-    /// The id of this number.
     pub fn new(number: u32) -> Id
         requires { number < 2 ^ 26 }
         ensures { result ≡ number }
@@ -30,7 +28,6 @@ impl Id {
         Id { number }
     }
 
-    /// The number of the cell.
     pub fn number(&self) -> u32
         ensures value { result ≡ self.now }
         ensures small { self.now < 2 ^ 26 }

@@ -1,8 +1,7 @@
 //! The index of a store in plain memory: for each key the cell that has it, by open addressing from the key's home.
 //!
-//! The index has a slot for each cell. A slot holds 0, or the number of a cell plus 1. The cell of
-//! a key stands in the slot that is the key's home or in the first free one after it, going round
-//! at the end, and slots are never freed.
+//! The index has a slot for each cell: 0, or the number of a cell plus 1. A key's cell stands in the first slot, from
+//! the key's home on and cyclically, that was free when it was put there. Slots are never freed.
 ghost use Rattle.std.specs.Prelude.{◌≡◌, ◌≢◌, ℕ, ◌+◌, ◌<◌, ◌≤◌, ◌^◌, length, slice_index, IfOk};
 ghost use Rattle.cg_cells.specs.Index.{IsProbeEnd, IsIndex};
 ghost use Rattle.cg_cells.specs.Words.{filled};
@@ -13,13 +12,11 @@ use std::alloc::{AllocError, Global};
 /// Where a search for a key ends.
 #[derive(Clone, Copy)]
 pub(crate) enum ProbeEnd {
-    /// At the cell that has the key.
     Cell(u32),
-    /// At an empty slot, since no cell has the key.
+    /// At an empty slot: no cell has the key.
     Slot(usize),
 }
 
-/// Searches for a key from its home.
 pub(crate) fn probe<F: Facts>(keys: &[u64], index: &[u32], key: u64) -> ProbeEnd
     requires size { (length index.now ≡ length keys.now) × (length keys.now ≤ 2 ^ 26) }
     requires inside { (s : ℕ) → slice_index index.now s ≤ length keys.now }
@@ -46,7 +43,7 @@ pub(crate) fn probe<F: Facts>(keys: &[u64], index: &[u32], key: u64) -> ProbeEnd
     unreachable!()
 }
 
-// Puts a cell into the index of the cells before it, where it has a key.
+// Indexes one more cell, if it has a key.
 fn put<F: Facts>(keys: &[u64], index: &mut [u32], cell: usize)
     requires size { (length index.old ≡ length keys.now) × (length keys.now ≤ 2 ^ 26) }
     requires cell { cell < length keys.now }
@@ -67,7 +64,6 @@ fn put<F: Facts>(keys: &[u64], index: &mut [u32], cell: usize)
     index[slot] = cell as u32 + 1;
 }
 
-/// The index of these cells, of which no two have one key.
 pub(crate) fn index_of<F: Facts>(alloc: Global, keys: &[u64]) -> Result<Vec<u32>, AllocError>
     requires size { length keys.now ≤ 2 ^ 26 }
     requires once { (i j : ℕ) → slice_index keys.now i ≢ 0

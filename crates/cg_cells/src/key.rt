@@ -81,17 +81,14 @@ pub enum KeyParts {
     },
 }
 
-/// What the key of a list has.
+/// The parts of the key of a list.
 #[derive(Clone, Copy, Debug, PartialEq, Eq)]
 pub struct ListParts {
-    /// The first option.
     pub first: Id,
-    /// The list of the others.
     pub rest: Option<Id>,
 }
 
 impl KeyParts {
-    // Whether a key may have these fields.
     fn fits(&self) -> bool
         ensures { IsTrue result ↔ FieldsFit self.now }
     {
@@ -124,7 +121,6 @@ impl KeyParts {
         }
     }
 
-    // The word of the parts.
     fn word(&self) -> u64
         requires { FieldsFit self.now }
         ensures value { result ≡ word_of self.now }
@@ -156,7 +152,7 @@ impl KeyParts {
     }
 }
 
-// The parts that the word has, where it is the word of some: each field is read where it stands, and nothing is tested.
+// Reads the fields of the word's kind, unchecked. It is right for a word that some parts have.
 #[inline(always)]
 fn candidate(word: u64) -> Option<KeyParts>
     ensures { (p : KeyParts) → FieldsFit p → TypesFit p → word_of p ≡ word → result ≡ Some p }
@@ -198,7 +194,6 @@ fn candidate(word: u64) -> Option<KeyParts>
     }
 }
 
-// The parts whose word this is.
 fn unpacked(word: u64) -> Option<KeyParts>
     ensures some { IfSome result (λ p. FieldsFit p × TypesFit p × (word_of p ≡ word)) }
     ensures none { IfNone result ((p : KeyParts) → FieldsFit p → TypesFit p → word_of p ≢ word) }
@@ -212,7 +207,7 @@ fn unpacked(word: u64) -> Option<KeyParts>
 }
 
 impl Key {
-    /// The key of this word. None is for 0 alone.
+    /// None only for 0.
     pub fn from_word(word: u64) -> Option<Key>
         ensures some { IfSome result (λ key. key ≡ word) }
         ensures none { (result ≡ None) ↔ (word ≡ 0) }
@@ -220,7 +215,6 @@ impl Key {
         if word == 0 { None } else { Some(Key { word }) }
     }
 
-    /// The word of the key.
     pub fn word(&self) -> u64
         ensures value { result ≡ self.now }
         ensures nonzero { self.now ≢ 0 }
@@ -228,7 +222,7 @@ impl Key {
         self.word
     }
 
-    /// The key of these parts, whose fields must fit, as [`KeyParts`] says.
+    /// The fields must fit, as [`KeyParts`] says.
     pub fn pack(parts: KeyParts) -> Key
         requires { FieldsFit parts }
         ensures value { result ≡ word_of parts }
@@ -238,7 +232,7 @@ impl Key {
         Key { word: parts.word() }
     }
 
-    /// The parts whose key this is. None is for the words that `pack` gives for no parts.
+    /// None if no parts have this key.
     pub fn unpack(&self) -> Option<KeyParts>
         ensures parts { result ≡ parts_of self.now }
         ensures fit { IfSome result (λ p. FieldsFit p × TypesFit p × (word_of p ≡ self.now)) }
@@ -248,8 +242,7 @@ impl Key {
         unpacked(self.word)
     }
 
-    /// The parts of a key that is the key of some, as each key that spells a thing is. They are
-    /// read where they stand and not spelled again, as `unpack` does to see whether there are any.
+    /// Like [`Key::unpack`], but unchecked: for a key that some parts have, as each key that spells a thing does.
     #[inline(always)]
     pub fn parts(&self) -> KeyParts
         requires { IsSome (parts_of self.now) }
@@ -262,8 +255,7 @@ impl Key {
         parts
     }
 
-    /// What the key of a list has, where the key of some parts, as [`Key::parts`] reads them, is
-    /// that of a list. Nothing of other kinds is read.
+    /// The parts of the key of a list, unchecked as in [`Key::parts`], or None for other kinds.
     #[inline]
     pub fn list_parts(&self) -> Option<ListParts>
         requires { IsSome (parts_of self.now) }

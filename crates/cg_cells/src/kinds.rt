@@ -1,5 +1,4 @@
-//! Keys by the fields of their kinds. Each takes its fields one by one, so none of them is written
-//! to memory and read back.
+//! Keys of one kind each, as [`Key::pack`] gives them. The fields are passed one by one, so none goes through memory.
 ghost use Rattle.std.specs.Prelude.{◌≡◌, ◌≤◌, ◌+◌, Some};
 ghost use Rattle.cg_cells.specs.Layout.{TypesFit, id_field, word_of};
 ghost use Rattle.cg_cells.specs.Parts.{parts_of};
@@ -9,7 +8,6 @@ use crate::bits::{COLUMNS, GAME, KIND, NEXT, ROWS, SECOND, field_of};
 use crate::{Id, Key};
 
 impl Key {
-    /// The key of a chunk, as [`Key::pack`] gives it.
     pub fn chunk(content: u32, next: Option<Id>) -> Key
         ensures value { result ≡ word_of (Chunk content next) }
         ensures parts { parts_of result ≡ Some (Chunk content next) }
@@ -20,7 +18,6 @@ impl Key {
         }
     }
 
-    /// The key of a list, as [`Key::pack`] gives it.
     pub fn list(first: Id, rest: Option<Id>) -> Key
         ensures value { result ≡ word_of (Cons first rest) }
         ensures parts { parts_of result ≡ Some (Cons first rest) }
@@ -31,7 +28,6 @@ impl Key {
         }
     }
 
-    /// The key of a game, of which one list at least isn't empty, as [`Key::pack`] gives it.
     pub fn game(lefts: Option<Id>, rights: Option<Id>) -> Key
         requires { 1 ≤ id_field lefts + id_field rights }
         ensures value { result ≡ word_of (Game lefts rights) }
@@ -43,7 +39,6 @@ impl Key {
         }
     }
 
-    /// The key of a pair, the lesser id first, as [`Key::pack`] gives it.
     pub fn pair(low: Id, high: Id) -> Key
         requires { low ≤ high }
         ensures value { result ≡ word_of (Pair low high) }
@@ -55,8 +50,6 @@ impl Key {
         }
     }
 
-    /// The key of a board of the game with this number, from 1 to 15, with 1 to 64 rows and
-    /// columns, as [`Key::pack`] gives it.
     pub fn board(number: u8, rows: u8, columns: u8, first: Id) -> Key
         requires number { (1 ≤ number) × (number ≤ 15) }
         requires rows { (1 ≤ rows) × (rows ≤ 64) }

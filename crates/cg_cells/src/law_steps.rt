@@ -1,5 +1,5 @@
-//! Laws of a shared table: whatever the passes of a table do, in whatever order, its rule holds,
-//! and what the rule says of tickets. Each pass keeps the list of the steps that it makes.
+//! Laws of a shared table: its rule holds whatever its passes do, in whatever order; and what the rule says of tickets.
+//! Each pass keeps the list of the steps that it makes.
 ghost use Rattle.std.specs.Prelude.{◌≡◌, ℕ, ◌<◌, ◌≤◌, min, List, [], slice_index};
 ghost use Rattle.cg_cells.specs.Views.{Sizes, ViewOf, cells_of};
 ghost use Rattle.cg_cells.specs.Table.{IsAllowed, IsLive, SoundAndPlaced, Whole, times};
@@ -7,10 +7,9 @@ ghost use Rattle.cg_cells.specs.Steps.{Table, Step, close, opening, Leads, Run, 
 
 use crate::Facts;
 
-/// For every list of steps from the start of a table of any allowed size, each made under its
-/// condition: the rule holds after it, if no step closed the table. Where a close follows, the
-/// words are sound after it and each key stands at its home or behind it with no empty cell
-/// between, no pass is live, and no further step can be made.
+/// For every list of steps from the start of a table of any allowed size, each made under its condition: the rule holds
+/// after it, if no step closed the table. After a close the words are sound, each key stands at its home or behind it
+/// with no empty cell between, no pass is live, and no further step can be made.
 pub fn steps<F: Facts>()
     ensures whole { (z : Sizes) → IsAllowed z → (steps : List Step) (t : Table F.Thing)
         → IsOpen steps
@@ -24,16 +23,16 @@ pub fn steps<F: Facts>()
         → ((i : ℕ) (v : ViewOf F.Thing) → ¬ IsLive s.views i v) → ¬ Leads F.meaning z s step t }
 {}
 
-/// After every list of steps from the start of a table, what a live pass's view has as made are the
-/// steps of the list that this pass made, and those of the passes that were met into it, the latest first.
+/// After every list of steps from the start of a table, the steps that a live pass's view lists are the steps of that
+/// list that this pass made, and those of the passes that were met into it, the latest first.
 pub fn made<F: Facts>()
     ensures { (z : Sizes) (steps : List Step) (t : Table F.Thing) (i : ℕ) (v : ViewOf F.Thing)
         → Run F.meaning z (opening z) steps t → IsLive t.views i v
         → v.made ≡ made_by steps (λ j. []) i }
 {}
 
-/// Where the rule holds, each line that was drawn is the ticket of one live pass, which has it
-/// once, and of no other. No pass has any other ticket.
+/// If the rule holds, each line that was drawn is the ticket of one live pass, which has it once, and of no other. No
+/// pass has any other ticket.
 pub fn tickets<F: Facts>()
     ensures one { (z : Sizes) (words : List ℕ) (views : List (ViewOf F.Thing)) (i j n : ℕ)
         (v w : ViewOf F.Thing)

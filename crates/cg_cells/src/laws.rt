@@ -12,7 +12,7 @@ ghost use Rattle.cg_cells.specs.Words.{AreFirst, IsCellFor, empty_words, marked,
 
 use crate::Facts;
 
-/// Parts that fit are the parts of their word, the parts of a word fit and have that word, and no other word has parts.
+/// Parts that fit are the parts of their word. The parts of a word fit and have that word, and no other word has parts.
 pub fn layout()
     ensures packed { (p : KeyParts) → FieldsFit p → TypesFit p → parts_of (word_of p) ≡ Some p }
     ensures unpacked { (w : ℕ) (p : KeyParts) → parts_of w ≡ Some p → FieldsFit p × TypesFit p
@@ -32,9 +32,9 @@ pub fn six_words()
     ensures long { word_of (Long 1 3 true) ≡ 0xe000_0002_1800_0002 }
 {}
 
-/// The ids of a store that was made empty come in the order of first claims, from 0: where the
-/// cells with a key are the first `n`, a key that has a cell keeps it, and a key that has none gets
-/// the cell `n`, after which the first `n + 1` have a key.
+/// The ids of a store that was made empty come in the order of first claims, from 0: if the cells with a key are the
+/// first `n`, a key that has a cell keeps it, and a new key gets the cell `n`, after which the first `n + 1` have a
+/// key.
 pub fn order_of_claims()
     ensures none { (size : ℕ) → AreFirst (empty_words size).keys 0 }
     ensures found { (keys : List ℕ) (n key id : ℕ) → AreFirst keys n → key ≢ 0
@@ -44,21 +44,20 @@ pub fn order_of_claims()
         × AreFirst (slice_set keys id key) (n + 1) }
 {}
 
-/// What a key spells under any map from ids to things it spells under a finite one, which has
-/// nothing that the map hasn't.
+/// What a key spells under a map from ids to things, it spells under a finite part of that map.
 pub fn finite_maps<F: Facts>()
     ensures { (key : ℕ) (f : ℕ → Option F.Thing) (t : F.Thing) → F.meaning.spells key f ≡ Some t
         → SpellsUnderFinite F.meaning key f t }
 {}
 
-/// A thing that some cells stand for is one that some key spells under some finite map.
+/// If cells can stand for a thing, some key spells it under some finite map.
 pub fn real_things<F: Facts>()
     ensures { (o : Option F.Thing) (t : F.Thing) → IsReal F.meaning o → o ≡ Some t
         → (key : ℕ) × (known : map.FinMap nat_cmp F.Thing)
         × (F.meaning.spells key (map.get known) ≡ Some t) }
 {}
 
-/// A store in plain memory knows exactly what its cells stand for, and exactly its cells with a value are noted.
+/// A store in plain memory knows exactly what its cells stand for, and exactly the cells with a value are noted.
 pub fn what_stands<F: Facts>()
     ensures known { (keys : List ℕ) (id : ℕ) (t : F.Thing)
         → map.get (things_of F.meaning keys) id ≡ Some t

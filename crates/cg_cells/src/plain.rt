@@ -1,4 +1,3 @@
-//! A store of cells in plain memory.
 ghost use Rattle.std.specs.Prelude.{◌≡◌, ◌≢◌, ℕ, ◌+◌, ◌-◌, ◌<◌, ◌≤◌, ◌^◌, ◌⊎◌, ◌↔◌, length};
 ghost use Rattle.std.specs.Prelude.{slice_index, slice_set, MatchOption, IfOk, IfSome, IfNone};
 ghost use Rattle.std.specs.Prelude.{IsSome, Err};
@@ -44,8 +43,8 @@ impl<F: Facts> Model for PlainStore<F> {
 }
 
 impl<F: Facts> PlainStore<F> {
-    /// A store of so many cells, all empty, with as many claims to spare. It takes all its memory
-    /// here, 16 bytes a cell. Its ids come in the order of first claims, from 0.
+    /// A store of empty cells, with as many claims to spare. It allocates 16 bytes a cell here and nothing later. Ids
+    /// come in the order of first claims, from 0.
     pub fn new(alloc: Global, size: u64) -> Result<PlainStore<F>, StoreFault>
         ensures made { IfOk result (λ s. s ≡ empty_words size) }
         ensures size { (result ≡ Err StoreFault.Size) ↔ ((size ≡ 0) ⊎ (2 ^ 26 < size)) }
@@ -74,11 +73,10 @@ impl<F: Facts> PlainStore<F> {
         })
     }
 
-    /// A store of these words, with so many claims to spare. A key word is 0 for an empty cell, and
-    /// a value word is 0 or the noted id plus 1. There must be 1 to 2^26 cells, of which at least
-    /// as many are empty as there are claims to spare. No key may stand twice, each cell with a key
-    /// must stand for a thing, different cells for different things, and each value must name the
-    /// cell of what a note there must spell. In which cells the keys stand makes no difference.
+    /// A store of these words. A key word is 0 for an empty cell, and a value word is 0 or the noted id plus 1. There
+    /// must be 1 to 2^26 cells, and at least `spare` of them empty. No key may stand twice, each cell with a key must
+    /// stand for a thing, different cells for different things, and each value must name the cell of what a note there
+    /// must spell. Keys may stand in any cells.
     pub fn of_words(
         alloc: Global,
         keys: Vec<u64>,
@@ -105,7 +103,6 @@ impl<F: Facts> PlainStore<F> {
     }
 }
 
-// The first cell without a key, where each cell before this one has a key.
 fn first_empty(keys: &[u64], next: usize) -> Option<usize>
     requires { (i : ℕ) → i < next → slice_index keys.now i ≢ 0 }
     ensures { MatchOption result ((i : ℕ) → i < length keys.now → slice_index keys.now i ≢ 0)
@@ -119,7 +116,7 @@ fn first_empty(keys: &[u64], next: usize) -> Option<usize>
     None
 }
 
-// These words in half the space.
+// The words as 32-bit words.
 fn narrow(alloc: Global, words: &[u64]) -> Result<Vec<u32>, AllocError>
     requires { (i : ℕ) → slice_index words.now i ≤ 2 ^ 26 }
     ensures { IfOk result (λ narrow. narrow.items ≡ words.now) }
@@ -152,9 +149,8 @@ impl<F: Facts> CellStore<F> for PlainStore<F> {
         key
     }
 
-    /// The id of the cell with this key. Where no cell has it, it is put into the first cell
-    /// without a key, so the ids of a store that was made empty come in the order of first claims,
-    /// from 0.
+    /// A new key goes into the first empty cell, so the ids of a store that was made empty come in the order of first
+    /// claims, from 0.
     fn claim(&mut self, key: Key) -> Id
         requires spare { 1 ≤ self.old.spare }
         requires spells { IsSome (F.meaning.spells key (thing_at (state_of F.meaning self.old))) }
@@ -199,7 +195,6 @@ impl<F: Facts> CellStore<F> for PlainStore<F> {
         self.values[at] = value.number() + 1;
     }
 
-    /// The value that is noted on the cell. None comes exactly where none is.
     fn noted(&mut self, id: Id) -> Option<Id>
         requires { Known (state_of F.meaning self.old) id }
         ensures exact { IsSome result ↔ Has (state_of F.meaning self.old).noted id }
@@ -219,7 +214,6 @@ impl<F: Facts> CellStore<F> for PlainStore<F> {
         Some(Id::new(word - 1))
     }
 
-    /// Nothing is brought near, and the id is that of the first cell.
     fn prefetch_claim(&mut self, key: Key) -> Id
         ensures same { self.new ≡ self.old }
         ensures spends { Spends 0 (state_of F.meaning self.old) (state_of F.meaning self.new) }
@@ -228,7 +222,6 @@ impl<F: Facts> CellStore<F> for PlainStore<F> {
         Id::new(0)
     }
 
-    /// Nothing is brought near.
     fn prefetch_note(&mut self, id: Id)
         ensures same { self.new ≡ self.old }
         ensures spends { Spends 0 (state_of F.meaning self.old) (state_of F.meaning self.new) }
@@ -241,13 +234,13 @@ impl<F: Facts> CellStore<F> for PlainStore<F> {
     }
 
     fn same(&self, a: Id, b: Id) -> bool {
-        // Read for the proof alone: what a store keeps is known where a field is read.
+        // For the proof alone: where a field is read, the prover knows the store's invariant.
         let _keys = &self.keys;
         a.number() == b.number()
     }
 
     fn apart(&self) {
-        // Read for the proof alone: what a store keeps is known where a field is read.
+        // For the proof, as in `same`.
         let _keys = &self.keys;
     }
 }

@@ -1,4 +1,4 @@
-//! Sums, halves and negatives: each is exact, or refused with the exact result.
+//! Sums, halves and negatives. Each is exact; if it is out of range, the fault holds the exact result in lowest terms.
 ghost use Rattle.std.specs.Prelude.{◌≡◌, ◌+◌, ◌*◌, ◌^◌, ◌<◌, ◌≤◌, ◌+ℤ◌, ◌*ℤ◌, pos, neg_ℤ};
 ghost use Rattle.std.specs.Prelude.{if◌then◌else◌, unsigned_abs, IfSome, IsNone};
 ghost use Rattle.cg_dyadic.specs.Number.{num_of, exp_of, ratio, InRange};
@@ -8,7 +8,7 @@ use crate::order::scaled;
 use crate::{Dyadic, RangeFault};
 
 impl Dyadic {
-    /// `num/2^exp`. The fault comes exactly where that number is out of range, and holds it in lowest terms.
+    /// `num/2^exp`.
     pub fn make(num: i128, exp: u8) -> Result<Dyadic, RangeFault>
         ensures { IsExact num exp result }
     {
@@ -23,7 +23,7 @@ impl Dyadic {
         }
     }
 
-    /// The number of this numerator and exponent, which are in lowest terms and in range. Nothing is tested or halved.
+    /// The number with this numerator and exponent, unchecked.
     pub fn of_lowest(num: i128, exp: u8) -> Dyadic
         requires lowest { IsLowest (unsigned_abs num) exp }
         requires small { unsigned_abs num < 2 ^ 64 }
@@ -33,21 +33,18 @@ impl Dyadic {
         Dyadic { num, exp }
     }
 
-    /// The sum. The fault comes exactly where it is out of range, and holds it in lowest terms.
     pub fn add(self, other: Dyadic) -> Result<Dyadic, RangeFault>
         ensures { IsExact (sum_num self other) (exp_of self + exp_of other) result }
     {
         Dyadic::make(sum_numerator(self, other), self.exp() + other.exp())
     }
 
-    /// Half the sum. The fault comes exactly where it is out of range, and holds it in lowest terms.
     pub fn half_sum(self, other: Dyadic) -> Result<Dyadic, RangeFault>
         ensures { IsExact (sum_num self other) (exp_of self + exp_of other + 1) result }
     {
         Dyadic::make(sum_numerator(self, other), self.exp() + other.exp() + 1)
     }
 
-    /// The number of the other sign.
     pub fn negate(self) -> Dyadic
         ensures { IsNegative self result }
     {
@@ -65,7 +62,6 @@ fn sum_numerator(a: Dyadic, b: Dyadic) -> i128
     scaled(a, b.exp()) + scaled(b, a.exp())
 }
 
-/// The number of this sign, size and exponent, if it is in range.
 pub(crate) fn in_range(is_negative: bool, size: u128, exp: u8) -> Option<Dyadic>
     requires { IsLowest size exp }
     ensures num { IfSome result (λ x. num_of x ≡ signed_of is_negative size) }
@@ -83,7 +79,6 @@ pub(crate) fn in_range(is_negative: bool, size: u128, exp: u8) -> Option<Dyadic>
     }
 }
 
-/// The number of this sign and size.
 pub(crate) fn signed(is_negative: bool, size: u128) -> i128
     requires { size + (if is_negative then 0 else 1) ≤ 2 ^ 127 }
     ensures { result ≡ signed_of is_negative size }
@@ -95,7 +90,7 @@ pub(crate) fn signed(is_negative: bool, size: u128) -> i128
     }
 }
 
-/// Both terms of `size/2^exp` halved for as long as they are even.
+/// `size/2^exp` in lowest terms.
 #[tactic(auto, using(crate::proofs::Powers::halve))]
 pub(crate) fn lowest(size: u128, exp: u8) -> (u128, u8)
     ensures same { result.0 * 2 ^ exp ≡ size * 2 ^ result.1 }

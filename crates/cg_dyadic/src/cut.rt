@@ -1,20 +1,16 @@
-//! Cuts of the numbers.
 ghost use Rattle.std.specs.Prelude.{◌≡◌, true};
 ghost use Rattle.cg_dyadic.specs.Number.{InRange};
 
 use crate::{Dyadic, RangeFault};
 
-/// The numbers on one side of a number, with the number itself where the cut is closed.
+/// The numbers on one side of `at`, with `at` itself if the cut is closed.
 #[derive(Clone, Copy, Debug, PartialEq, Eq)]
 pub struct Cut {
-    /// Where the numbers are cut.
     pub at: Dyadic,
-    /// Whether `at` itself is in the cut.
     pub closed: bool,
 }
 
 impl Cut {
-    /// The closed cut at the number.
     pub fn closed(at: Dyadic) -> Cut
         ensures at { result.at ≡ at }
         ensures closed { result.closed ≡ true }
@@ -27,10 +23,9 @@ impl Cut {
 /// What lies between two cuts.
 #[derive(Clone, Copy, Debug, PartialEq, Eq)]
 pub enum Found {
-    /// The simplest number, which is in range.
+    /// The simplest number, in range.
     Number(Dyadic),
-    /// The simplest number is the one that the fault holds, out of range.
+    /// The simplest number, out of range.
     Outside(RangeFault),
-    /// No number.
     Nothing,
 }

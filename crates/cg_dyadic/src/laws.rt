@@ -34,9 +34,9 @@ pub fn arithmetic()
     ensures negative_cancels { (x y : Number) → IsNegative x y → IsSum x y (whole (pos 0)) }
 {}
 
-/// A Left option of a number is less than it, and a Right option greater; each is in range where the number is, and
-/// weighs less. Of two numbers, where the first isn't at most the second, a Left option of the first is still at least
-/// the second, or a Right option of the second at most the first.
+/// A Left option of a number is less than it, and a Right option greater; each is in range if the number is, and weighs
+/// less. If one number isn't at most another, a Left option of the first is still at least the second, or a Right
+/// option of the second at most the first.
 pub fn options()
     ensures left_is_less { (x y : Number) → AmongNumbers y (number_lefts x) → NumberLe y x × (¬ NumberLe x y) }
     ensures right_is_greater { (x y : Number) → AmongNumbers y (number_rights x) → NumberLe x y × (¬ NumberLe y x) }
@@ -47,8 +47,7 @@ pub fn options()
     ensures gap { (x y : Number) → ¬ NumberLe x y → ((a : Number) × AmongNumbers a (number_lefts x) × NumberLe y a) ⊎ ((b : Number) × AmongNumbers b (number_rights y) × NumberLe b x) }
 {}
 
-/// The number between two cuts none of whose options lies between them is the simplest number there: it is simpler than
-/// every other.
+/// If a number lies between two cuts and none of its options does, it is simpler than every other number there.
 pub fn simplest()
     ensures in_gap { (low high : Option Cut) (x : Number) → NoOptionPasses (in_gap low high) x → SimplestFor (in_gap low high) x }
     ensures between { (p q x : Number) (c d : Bool) → NoOptionPasses (is_between p c q d) x → SimplestFor (is_between p c q d) x }

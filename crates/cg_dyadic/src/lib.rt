@@ -1,10 +1,9 @@
-//! Dyadic numbers: exact arithmetic with a refusal that holds the exact result, the order, and the simplest number
-//! between two.
+//! Dyadic numbers: exact arithmetic, the order, and the simplest number between two.
 //!
 //! A number is `num / 2^exp` in lowest terms: `num` is odd, or `exp` is 0. Contracts see a `Dyadic` as such a number,
-//! of which there is exactly one for each value, so equal numbers are the same number. The range is that of
-//! `|num| < 2^64` and `exp <= 40`. Where an exact result is out of range, the call answers a [`RangeFault`] that holds
-//! that result in lowest terms. No call rounds, and every call but `text` takes no memory.
+//! of which there is exactly one for each value, so equal numbers are the same number. In range are the numbers with
+//! `|num| < 2^64` and `exp <= 40`. If an exact result is out of range, the call answers a [`RangeFault`] that holds it.
+//! No call rounds, and only `text` allocates.
 #![tactic(auto)]
 
 ghost use Rattle.std.specs.Prelude.{◌≡◌};
@@ -47,7 +46,6 @@ impl Model for Dyadic {
 }
 
 impl Dyadic {
-    /// The numerator, below 2^64 in size. It is odd, or the denominator is 1.
     pub fn num(&self) -> i128
         ensures value { result ≡ num_of self.now }
         ensures in_range { InRange self.now }
@@ -55,7 +53,6 @@ impl Dyadic {
         self.num
     }
 
-    /// The exponent of the denominator, from 0 to 40.
     pub fn exp(&self) -> u8
         ensures value { result ≡ exp_of self.now }
         ensures in_range { InRange self.now }
@@ -63,7 +60,7 @@ impl Dyadic {
         self.exp
     }
 
-    /// Whether the number is long: its numerator is 2^52 or more in size, or its exponent is 32 or more.
+    /// Whether the numerator is 2^52 or more in size, or the exponent 32 or more.
     pub fn is_long(&self) -> bool
         ensures value { result ≡ is_long self.now }
         ensures in_range { InRange self.now }

@@ -1,17 +1,14 @@
-//! The options of a number.
 ghost use Rattle.std.specs.Prelude.{◌≡◌, ◌↔◌, [], IsTrue, option_to_list};
 ghost use Rattle.cg_dyadic.specs.Number.{number_lefts, number_rights};
 
 use crate::Dyadic;
 
-/// Whether a number has a Left option.
 fn has_left(x: Dyadic) -> bool
     ensures { IsTrue result ↔ (¬ (number_lefts x ≡ [])) }
 {
     x.exp() > 0 || x.num() > 0
 }
 
-/// Whether a number has a Right option.
 fn has_right(x: Dyadic) -> bool
     ensures { IsTrue result ↔ (¬ (number_rights x ≡ [])) }
 {
@@ -19,7 +16,7 @@ fn has_right(x: Dyadic) -> bool
 }
 
 impl Dyadic {
-    /// The Left option of the number, if it has one: a unit of its denominator below.
+    /// One unit of the denominator less, if the number has a Left option.
     pub fn left_option(self) -> Option<Dyadic>
         ensures { option_to_list result ≡ number_lefts self }
     {
@@ -32,7 +29,7 @@ impl Dyadic {
         }
     }
 
-    /// The Right option of the number, if it has one: a unit of its denominator above.
+    /// One unit of the denominator more, if the number has a Right option.
     pub fn right_option(self) -> Option<Dyadic>
         ensures { option_to_list result ≡ number_rights self }
     {

@@ -5,7 +5,6 @@ ghost use Rattle.cg_dyadic.specs.Number.{number_le, number_cmp, num_of, exp_of, 
 use crate::Dyadic;
 use std::cmp::Ordering;
 
-/// `2^exp`.
 fn power(exp: u8) -> i128
     requires { exp ≤ 41 }
     ensures { result ≡ pos (2 ^ exp) }
@@ -24,7 +23,6 @@ pub(crate) fn scaled(number: Dyadic, exp: u8) -> i128
 }
 
 impl Dyadic {
-    /// Whether the number is at most the other.
     pub fn le(self, other: Dyadic) -> bool
         ensures value { result ≡ number_le self other }
         ensures in_range { InRange self × InRange other }
@@ -35,7 +33,6 @@ impl Dyadic {
         scaled(self, other.exp) <= scaled(other, self.exp)
     }
 
-    /// How the two numbers are ordered; `Equal` comes exactly for the same number.
     pub fn compare(self, other: Dyadic) -> Ordering
         ensures order { result ≡ number_cmp self other }
         ensures same { (result ≡ Ordering.Equal) ↔ (self ≡ other) }
@@ -45,7 +42,6 @@ impl Dyadic {
         left.cmp(&right)
     }
 
-    /// The least number in range, -(2^64 - 1).
     pub fn least() -> Dyadic
         ensures value { result ≡ whole (neg_ℤ (pos (2 ^ 64 - 1))) }
     {
@@ -55,7 +51,6 @@ impl Dyadic {
         }
     }
 
-    /// The greatest number in range, 2^64 - 1.
     pub fn greatest() -> Dyadic
         ensures value { result ≡ whole (pos (2 ^ 64 - 1)) }
     {

@@ -44,7 +44,6 @@ fn high_at(end: Option<i128>, scale: u8) -> Option<i128>
     }
 }
 
-/// Whether no unit lies between the ends.
 fn crossed(low: Option<i128>, high: Option<i128>) -> bool
     ensures { result ≡ crossed low high }
 {
@@ -88,7 +87,6 @@ fn coarsest(low: Option<i128>, high: Option<i128>) -> u8
     scale
 }
 
-/// The simplest number between the ends, which are in units of the finest scale.
 fn simplest_of(low: Option<i128>, high: Option<i128>) -> RangeFault
     requires small_low { SmallEnd low }
     requires small_high { SmallEnd high }
@@ -102,7 +100,6 @@ fn simplest_of(low: Option<i128>, high: Option<i128>) -> RangeFault
     }
 }
 
-/// The number in units of the finest scale.
 fn units(x: Dyadic) -> i128
     ensures is { result ≡ units 41 x }
     ensures small { SmallAround result }
@@ -111,7 +108,6 @@ fn units(x: Dyadic) -> i128
     scaled(x, FINEST - x.exp)
 }
 
-/// The least unit above a low cut.
 fn first_unit(cut: Option<Cut>) -> Option<i128>
     ensures is { result ≡ first_unit cut }
     ensures small { SmallEnd result }
@@ -126,7 +122,6 @@ fn first_unit(cut: Option<Cut>) -> Option<i128>
     }
 }
 
-/// The greatest unit below a high cut.
 fn last_unit(cut: Option<Cut>) -> Option<i128>
     ensures is { result ≡ last_unit cut }
     ensures small { SmallEnd result }
@@ -141,15 +136,14 @@ fn last_unit(cut: Option<Cut>) -> Option<i128>
     }
 }
 
-/// Whether the numerator and the exponent are those of a number in range.
 pub(crate) fn is_in_range(f: RangeFault) -> bool
     ensures { IsTrue result ↔ (unsigned_abs f.num < 2 ^ 64) × (f.exp ≤ 40) }
 {
     -18_446_744_073_709_551_616 < f.num && f.num < 18_446_744_073_709_551_616 && f.exp <= 40
 }
 
-/// What lies above the low cut and below the high cut, where there are cuts: the number none of whose options lies
-/// there, which is the simplest (`laws::simplest`), in range or not, or no number.
+/// The simplest number above the low cut and below the high one, in range or not (`laws::simplest`). A cut that is None
+/// bounds nothing.
 pub fn simplest_in(low: Option<Cut>, high: Option<Cut>) -> Found
     ensures { FoundIs (in_gap low high) result }
 {
@@ -168,8 +162,7 @@ pub fn simplest_in(low: Option<Cut>, high: Option<Cut>) -> Found
     Found::Outside(best)
 }
 
-/// The number in range between the two cuts none of whose options lies there, which is the simplest
-/// (`laws::simplest`), or None where no number in range lies between them.
+/// The simplest number between the two cuts (`laws::simplest`), or None if no number in range lies between them.
 pub fn simplest(low: &Cut, high: &Cut) -> Option<Dyadic>
     ensures found { IfSome result (λ x. SimplestBetween low.now.at low.now.closed high.now.at high.now.closed x) }
     ensures none { IsNone result → NoneBetween low.now.at low.now.closed high.now.at high.now.closed }
@@ -181,7 +174,6 @@ pub fn simplest(low: &Cut, high: &Cut) -> Option<Dyadic>
     }
 }
 
-/// The closed cut at the number, where there is one.
 fn closed_cut(x: Option<Dyadic>) -> Option<Cut>
     ensures { result ≡ closed_cut x }
 {
@@ -192,9 +184,9 @@ fn closed_cut(x: Option<Dyadic>) -> Option<Cut>
 }
 
 impl Dyadic {
-    /// The simplest number strictly between the two, where they are given: the integer of least size if there is an
-    /// integer between them, and else the number with the least exponent. The fault comes exactly where that number is
-    /// out of range, and holds it. (The Simplicity Theorem: Siegel, Combinatorial Game Theory (2013), II.3.)
+    /// The simplest number strictly between the bounds that are given: the integer of least size if there is one,
+    /// otherwise the number with the least exponent. (The Simplicity Theorem: Siegel, Combinatorial Game Theory (2013),
+    /// II.3.)
     pub fn simplest_between(low: Option<Dyadic>, high: Option<Dyadic>) -> Result<Dyadic, RangeFault>
         requires { Apart low high }
         ensures found { IfOk result (λ x. SimplestFor (strictly_between low high) x) }

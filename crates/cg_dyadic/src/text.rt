@@ -1,4 +1,3 @@
-//! Numbers from digits, and as text.
 ghost use Rattle.std.specs.Prelude.{◌≡◌, ◌^◌, ◌<◌, ℕ, IfOk, IfSome, MatchOption, string_bytes};
 ghost use Rattle.cg_dyadic.specs.Exact.{IsFromDigits, number_text};
 
@@ -7,7 +6,7 @@ use crate::arithmetic::{in_range, lowest};
 use std::alloc::{AllocError, Global};
 
 impl Dyadic {
-    /// `num/den` with this sign. None comes exactly where `den` isn't a power of two or the number is out of range.
+    /// `num/den` with this sign. None if `den` isn't a power of two or the number is out of range.
     pub fn from_digits(negative: bool, num: u128, den: u128) -> Option<Dyadic>
         ensures { IsFromDigits negative num den result }
     {
@@ -16,7 +15,7 @@ impl Dyadic {
         in_range(negative, size, exp)
     }
 
-    /// The number as `n` or `n/d` in lowest terms, with `d` a power of two, and a leading `-` where it is negative.
+    /// `n` or `n/d` in lowest terms, with `d` a power of two, and a leading `-` if the number is negative.
     pub fn text(self, alloc: Global) -> Result<String, AllocError>
         ensures { IfOk result (λ text. string_bytes text ≡ number_text self) }
     {
@@ -31,7 +30,6 @@ impl Dyadic {
     }
 }
 
-/// The exponent of a power of two, which is below 128.
 fn power_of(den: u128) -> Option<u8>
     ensures power { MatchOption result ((k : ℕ) → den ≡ 2 ^ k → ⊥) (λ k. den ≡ 2 ^ k) }
     ensures bound { IfSome result (λ k. k < 128) }

@@ -11,8 +11,7 @@ use std::alloc::{AllocError, Global};
 use std::cmp::Ordering;
 use std::marker::Model;
 
-/// A number with at most 60 binary places and a size below 2^66. It is held in units of 1/2^60. Contracts see it as
-/// the number.
+/// A number with at most 60 binary places and a size below 2^66, held in units of 1/2^60. Contracts see the number.
 #[derive(Clone, Copy, Debug, PartialEq, Eq)]
 pub struct Wide {
     word: i128,
@@ -35,7 +34,6 @@ impl Model for Wide {
     ghost inverse_ok = { λ a h i. record { word = h.round i } };
 }
 
-// 2^exp.
 fn power(exp: u8) -> i128
     requires { exp ≤ 60 }
     ensures { result ≡ pos (2 ^ exp) }
@@ -43,7 +41,6 @@ fn power(exp: u8) -> i128
     1i128 << exp
 }
 
-// The number in units of 1/2^60.
 fn units_of(x: Dyadic) -> i128
     ensures value { result ≡ units places x }
     ensures small { unsigned_abs result < 2 ^ 126 }
@@ -52,7 +49,6 @@ fn units_of(x: Dyadic) -> i128
     x.num() * power(60 - x.exp())
 }
 
-// Half of n, rounded down.
 fn half_down(n: i128) -> i128
     ensures { result ≡ half n }
 {
@@ -79,7 +75,6 @@ fn text_of(alloc: Global, num: i128, exp: u8) -> Result<String, AllocError>
 }
 
 impl Wide {
-    /// The same number.
     pub fn of(x: Dyadic) -> Wide
         ensures same { result ≡ x }
         ensures in_range { InRange x }
@@ -87,7 +82,6 @@ impl Wide {
         Wide::of_units(units_of(x))
     }
 
-    /// So many units of 1/2^60.
     pub fn of_units(units: i128) -> Wide
         requires { unsigned_abs units < 2 ^ 126 }
         ensures { result ≡ ratio units places }
@@ -95,7 +89,6 @@ impl Wide {
         Wide { word: units }
     }
 
-    /// How many units of 1/2^60 it is.
     pub fn units(&self) -> i128
         ensures value { result ≡ units places self.now }
         ensures number { ratio result places ≡ self.now }
@@ -105,14 +98,12 @@ impl Wide {
         self.word
     }
 
-    /// The number of the other sign.
     pub fn negate(self) -> Wide
         ensures { IsNegative self result }
     {
         Wide::of_units(-self.units())
     }
 
-    /// How the two numbers are ordered; `Equal` comes exactly for the same number.
     pub fn compare(self, other: Wide) -> Ordering
         ensures order { result ≡ number_cmp self other }
         ensures same { (result ≡ Ordering.Equal) ↔ (self ≡ other) }
@@ -120,7 +111,7 @@ impl Wide {
         self.units().cmp(&other.units())
     }
 
-    /// The sum. None comes exactly where it is no wall value.
+    /// The sum, or None if it is no wall value.
     pub fn plus(self, other: Wide) -> Option<Wide>
         ensures { IsWideSum self other result }
     {
@@ -132,7 +123,7 @@ impl Wide {
         }
     }
 
-    /// Half of it. None comes exactly where that is no wall value.
+    /// Half of the number, or None if that is no wall value.
     pub fn halved(self) -> Option<Wide>
         ensures { IsWideHalf self result }
     {
@@ -145,7 +136,7 @@ impl Wide {
         }
     }
 
-    /// The number as `n` or `n/d` in lowest terms, with `d` a power of two, and a leading `-` where it is negative.
+    /// As [`Dyadic::text`].
     pub fn text(self, alloc: Global) -> Result<String, AllocError>
         ensures { IfOk result (λ text. string_bytes text ≡ number_text self) }
     {

@@ -1,9 +1,8 @@
 //! Canonical forms of whole trees.
 //!
-//! The options are made canonical first, and their cuts of all numbers, in range or not, tell
-//! whether some number fits between them. If so, the game equals the simplest such number.
-//! Otherwise its reversible options are bypassed, and the best of what is then there are kept, in
-//! the structural order.
+//! The options are made canonical first. If some number, in range or not, fits between their cuts, the game equals the
+//! simplest such number. Otherwise its reversible options are bypassed, the dominated ones dropped, and the rest sorted
+//! in the structural order.
 ghost use Rattle.std.specs.Prelude.{◌≡◌, IfOk, OnOk, Err, true, false};
 ghost use Rattle.cg_form.specs.Forms.{game_of, games_of};
 ghost use Rattle.cg_form.specs.Game.{node, of_list};
@@ -27,22 +26,21 @@ mod reversing;
 use best::best_of;
 use reversing::bypass_all;
 
-/// A canonical form, with the numbers that are no better for the player than the game.
+/// A canonical form, and the cut of the numbers that are no better for the player.
 #[derive(Drop)]
 struct Known {
     form: Form,
     cut: Cut,
 }
 
-/// The canonical forms of some options, with the numbers that are no better for the player than
-/// some of them.
+/// The canonical forms of a list of options, and the union of their cuts.
 #[derive(Drop)]
 struct KnownAll {
     forms: Vec<Form>,
     cut: Option<Cut>,
 }
 
-/// What stands in the place of the player's options in the canonical form.
+/// The player's options in the canonical form.
 fn replaced(
     alloc: Global,
     left: bool,
@@ -59,7 +57,6 @@ fn replaced(
     Ok(Options::of(best))
 }
 
-/// The canonical form of a game that equals no number, whose options are canonical.
 fn reduced(alloc: Global, lefts: Vec<Form>, rights: Vec<Form>) -> Result<Form, AllocError>
     requires none { NoNumber (node (games_of lefts.items) (games_of rights.items)) }
     requires lefts { EachCanonical (games_of lefts.items) }
@@ -87,7 +84,7 @@ fn same_cut(cut: &Option<Cut>) -> Option<Cut>
     }
 }
 
-/// What is known of the game of these options, from what is known of them.
+/// The canonical form of the game with these options, whose canonical forms are given.
 fn decide(
     alloc: Global,
     left: bool,
@@ -169,13 +166,9 @@ fn learn(alloc: Global, left: bool, form: &Form) -> Result<Known, SlowFault>
     }
 }
 
-/// The canonical form: the one form, whose every position is a number or has no dominated and no
-/// reversible option and options that rise strictly in the structural order, that equals the given
-/// one.
-///
-/// `SlowFault::Range` comes exactly where some position of the given form equals a number out of
-/// range. `SlowFault::Memory` comes only where there is no memory. (Siegel, Combinatorial Game
-/// Theory (2013), II.2 and II.3.)
+/// The canonical form: the equal form in which no position but a number has a dominated or a reversible option, with
+/// options in the structural order. `SlowFault::Range` says that some position equals a number out of range. (Siegel,
+/// Combinatorial Game Theory (2013), II.2 and II.3.)
 pub fn canonical_slow(alloc: Global, form: &Form) -> Result<Form, SlowFault>
     ensures canonical { IfOk result (λ k. IsCanonicalForm (game_of form.now) (game_of k)) }
     ensures in_range { OnOk result (¬ HasOutside (game_of form.now)) }

@@ -6,7 +6,6 @@ ghost use Rattle.cg_form.specs.Structure.{game_cmp, order_of_lists};
 use crate::form::{Form, Options};
 use std::cmp::Ordering;
 
-/// Lists compared entry by entry, a proper prefix first.
 #[cycle(compare)]
 fn compare_lists(a: &Options, b: &Options) -> Ordering
     ensures { result ≡ order_of_lists a.now b.now }

@@ -1,4 +1,4 @@
-//! Cuts of the numbers, as a player sees them.
+//! Cuts of the numbers, for either player.
 ghost use Rattle.std.specs.Prelude.{◌≡◌, [], Some};
 ghost use Rattle.cg_dyadic.specs.Cut.{in_cut};
 ghost use Rattle.cg_dyadic.specs.Number.{InRange};
@@ -8,7 +8,6 @@ use crate::player::number_at_most;
 use cg_dyadic::Dyadic;
 use cg_dyadic::cut::Cut;
 
-/// Whether x is in the cut.
 pub fn in_cut(left: bool, cut: &Cut, x: Dyadic) -> bool
     ensures value { result ≡ in_cut left cut.now x }
     ensures in_range { InRange x }
@@ -19,7 +18,6 @@ pub fn in_cut(left: bool, cut: &Cut, x: Dyadic) -> bool
     !number_at_most(left, cut.at, x)
 }
 
-/// Whether all that is in b is in a.
 fn covers(left: bool, a: &Cut, b: &Cut) -> bool
     ensures { result ≡ covers left a.now b.now }
 {
@@ -29,7 +27,7 @@ fn covers(left: bool, a: &Cut, b: &Cut) -> bool
     number_at_most(left, b.at, a.at)
 }
 
-/// Both cuts together; where there is no first one, the second.
+/// The union of the cuts: the second alone if there is no first.
 pub fn joined(left: bool, cut: &Option<Cut>, next: &Cut) -> Cut
     ensures { Joined left cut.now next.now result }
 {
@@ -42,7 +40,7 @@ pub fn joined(left: bool, cut: &Option<Cut>, next: &Cut) -> Cut
     }
 }
 
-/// The cut of the other player's options, turned: the same place, open where it is closed.
+/// The other player's cut, turned: at the same number, open if that one is closed.
 pub fn turned(left: bool, low: &Cut, high: &Cut) -> Cut
     ensures { Turned (other_cut left low.now high.now) result }
 {
@@ -58,7 +56,7 @@ pub fn turned(left: bool, low: &Cut, high: &Cut) -> Cut
     }
 }
 
-/// A cut in which no number in range is.
+/// A cut that contains no number in range.
 pub fn smallest(left: bool) -> Cut
     ensures { CutOf InRange left (Some result) [] }
 {

@@ -1,4 +1,3 @@
-//! The refusals of the slow calls.
 ghost use Rattle.std.specs.Prelude.{◌≡◌};
 
 use std::alloc::{AllocError, AllocFailed};
@@ -7,10 +6,8 @@ use thiserror::Error;
 /// Why there is no canonical form.
 #[derive(Clone, Copy, Debug, PartialEq, Eq, Error)]
 pub enum SlowFault {
-    /// Some position of the form equals a number out of range.
     #[error("a position equals a number out of range")]
     Range,
-    /// There is no memory.
     #[error("no memory")]
     Memory,
 }

@@ -1,4 +1,3 @@
-//! A form, and its lists of options.
 ghost use Rattle.std.specs.Prelude.{◌≡◌};
 ghost use Rattle.cg_form.specs.Forms.{games_of};
 
@@ -15,7 +14,7 @@ mod walk;
 pub enum Form {
     /// A number in range, which stands for the game of its canonical form.
     Num(Dyadic),
-    /// The game of these Left and Right options, in their order and with their repetitions.
+    /// Left and Right options, in order and with repetitions.
     Node(Options, Options),
 }
 
@@ -49,7 +48,6 @@ impl Model for Options {
 }
 
 impl Options {
-    /// The options of the list, in its order.
     pub fn of(items: Vec<Form>) -> Options
         ensures { result ≡ games_of items.items }
     {

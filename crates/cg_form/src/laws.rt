@@ -89,7 +89,7 @@ pub fn l1()
         × IsTrue (right_survives (sum g (negative h)))) }
 {}
 
-/// Sums keep the order, negatives turn it, and a game less itself equals 0.
+/// Sums keep the order, negatives reverse it, and G - G equals 0.
 pub fn l2()
     ensures sums { (a b c : Game) → Le a b ↔ Le (sum a c) (sum b c) }
     ensures negatives { (a b : Game) → Le (negative b) (negative a) ↔ Le a b }
@@ -104,10 +104,10 @@ pub fn l3()
     ensures no_rights { (g : Game) → rights g ≡ [] → (n : ℤ) × Equal (number (whole n)) g }
 {}
 
-/// Number translation: x + G = {x + A | x + B} where G equals no number.
+/// Number translation: x + G = {x + A | x + B} if G equals no number.
 ///
-/// Adding x to each number of a game, positions included, keeps the structural order; so where G is
-/// canonical it gives the canonical form of x + G.
+/// Adding x to each number of a game, positions included, keeps the structural order; so for a canonical G it gives the
+/// canonical form of x + G.
 pub fn l4()
     ensures translation { (x : Number) (g : Game) → NoNumber g → Equal (sum (number x) g) (translated x g) }
     ensures number_sum { (x y : Number) → IsSum x y (number_sum x y) }
@@ -115,10 +115,10 @@ pub fn l4()
     ensures shifted_form { (x : Number) (g : Game) → Canonical g → IsCanonicalForm (sum (number x) g) (shifted x g) }
 {}
 
-/// Canonical forms: every game equals exactly one, and no option of it is dominated or reversible;
-/// those of a number aren't, either. Removing a dominated option and bypassing a reversible one
-/// keep the value. Where a game equals no number and an option is reversible through
-/// a number, another option is as good as that number, and so dominates what the bypass brings in.
+/// Canonical forms: every game equals exactly one, in which no option is dominated or reversible, nor is any option of
+/// a number. Removing a dominated option and bypassing a reversible one keep the value. If a game equals no number and
+/// an option is reversible through a number, another option is as good as that number, and so dominates what the bypass
+/// brings in.
 pub fn l5()
     ensures exists { (g : Game) → (k : Game) × IsCanonicalForm g k }
     ensures unique { (g h k : Game) → IsCanonicalForm g h → IsCanonicalForm g k → h ≡ k }
@@ -140,9 +140,9 @@ pub fn l5()
         → Among (number x) (lefts a) → Le g (number x) → RightBelow g a x }
 {}
 
-/// A number has no positions but itself. `is_same` tests whether two games are one tree. Of any game, the positions are
-/// those that play can come to, each once; the game itself is the last; the options of a position that isn't a number
-/// stand before it; and those of a canonical game are canonical.
+/// A number has no positions but itself. `is_same` tests whether two games are one tree. The positions of any game are
+/// those that play can reach, each once, with the game itself last; the options of a position that isn't a number stand
+/// before it; and the positions of a canonical game are canonical.
 pub fn position_lists()
     ensures number { (x : Number) → positions_of (number x) ≡ number x ∷ [] }
     ensures same { (g h : Game) → (is_same g h ≡ true) ↔ (g ≡ h) }

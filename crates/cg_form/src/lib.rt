@@ -1,10 +1,9 @@
-//! Games as plain trees: forms, their order, the structural order, and canonical forms, with the
-//! laws on which the rest of the calculator stands.
+//! Games as plain trees: forms, their order, the structural order, and canonical forms, with the laws on which the rest
+//! of the calculator stands.
 //!
-//! A [`Form`] is a number, or two lists of options. Contracts see it as the game of the same shape
-//! (`game_of`), and lists of options as lists of games. The calls here work on whole trees and keep
-//! nothing between calls: each is as slow as the trees are large, and answers what its definition
-//! in specs/ says. The functions of [`laws`] do nothing; their contracts are the laws.
+//! A [`Form`] is a number, or two lists of options. Contracts see it as the game of the same shape (`game_of`), and
+//! lists of options as lists of games. The calls here work on whole trees and keep nothing between calls; specs/
+//! defines what each answers. The functions of [`laws`] do nothing; their contracts are the laws.
 #![tactic(auto)]
 
 mod canon;

@@ -1,8 +1,8 @@
 //! The order of whole trees.
 //!
-//! Two nodes are compared by their options, as the definition says. A number is never counted down:
-//! it is compared with a node by the node's cut, the numbers in range that are at most (or at
-//! least) the node, which follows from the cuts of its options by the simplest number between them.
+//! Two nodes are compared by their options, as the definition says. A number isn't expanded into its options: it is
+//! compared with a node by the node's cut, the numbers in range that are at most (or at least) the node. That cut
+//! follows from the cuts of the options, by the simplest number between them.
 ghost use Rattle.std.specs.Prelude.{◌≡◌, Some};
 ghost use Rattle.cg_dyadic.specs.Number.{InRange};
 ghost use Rattle.cg_form.specs.Cut.{CutIs, CutOf};
@@ -14,7 +14,7 @@ use crate::form::{Form, Options};
 use cg_dyadic::cut::Cut;
 use cg_dyadic::search::simplest;
 
-/// The numbers in range that are no better for the player than some option.
+/// The union of the options' cuts.
 #[cycle(cut_of)]
 fn cut_of_all(left: bool, options: &Options) -> Cut
     ensures { CutOf InRange left (Some result) options.now }
@@ -46,7 +46,6 @@ fn cut_of(left: bool, form: &Form) -> Cut
     }
 }
 
-/// Whether no option is at least the form.
 #[cycle(le_slow)]
 fn none_above(form: &Form, options: &Options) -> bool
     ensures { result ≡ no_one (λ a. le (game_of form.now) a) options.now }
@@ -59,7 +58,6 @@ fn none_above(form: &Form, options: &Options) -> bool
     true
 }
 
-/// Whether no option is at most the form.
 #[cycle(le_slow)]
 fn none_below(form: &Form, options: &Options) -> bool
     ensures { result ≡ no_one (λ b. le b (game_of form.now)) options.now }
@@ -72,8 +70,8 @@ fn none_below(form: &Form, options: &Options) -> bool
     true
 }
 
-/// Whether a <= b: no Left option of a is at least b, and no Right option of b is at most a. It
-/// takes no memory. (Siegel, Combinatorial Game Theory (2013), I.1 and II.1.)
+/// Whether a <= b: no Left option of a is at least b, and no Right option of b is at most a. It allocates nothing.
+/// (Siegel, Combinatorial Game Theory (2013), I.1 and II.1.)
 #[cycle(le_slow)]
 pub fn le_slow(a: &Form, b: &Form) -> bool
     ensures { result ≡ le (game_of a.now) (game_of b.now) }

@@ -1,8 +1,8 @@
 //! Where bytes come from and where they go.
 //!
-//! A [`Source`] and a [`Sink`] count their faults, so that a caller can be held to its word that they failed. Where
-//! they tell their bytes, a caller can say what it read and wrote. The count is a counter of 64 bits that stays at its
-//! end; a count that stands there counts as risen in every call.
+//! A [`Source`] and a [`Sink`] count their failures, so that a contract can say: an error only if the count rose. If
+//! they report their bytes, it can also say what was read and written. The count has 64 bits and saturates; a saturated
+//! count counts as risen in every call.
 #![tactic(auto)]
 
 ghost use Rattle.std.specs.Prelude.{◌≡◌, ℕ, ◌^◌, ◌<◌, ◌≤◌, List, length, Option, None, IfOk};
@@ -24,46 +24,41 @@ pub use stdout_sink::StdoutSink;
 pub use steady_source::SteadySource;
 use thiserror::Error;
 
-/// The one fault of a source or a sink.
 #[derive(Clone, Copy, Debug, PartialEq, Eq, Error)]
 #[error("the bytes could not be moved")]
 pub struct Failed;
 
 /// Where bytes come from.
 pub trait Source {
-    /// The bytes that are left, where the source tells them.
+    /// The bytes that are left, if the source reports them.
     ghost left: { Self → Option (List ℕ) };
 
-    /// How many times it failed, which never falls.
+    /// How many reads failed. It never falls.
     ghost faults: { Self → ℕ };
 
-    /// Takes bytes into the front of the buffer, at least one where any is left. `Ok(0)` is the end.
-    ///
-    /// `Failed` comes only where the count of faults rose, and then nothing was taken.
+    /// Reads bytes into the front of the buffer, at least one if any is left. `Ok(0)` is the end. After `Failed`
+    /// nothing was taken.
     fn read(&mut self, buffer: &mut [u8]) -> Result<usize, Failed>
         requires { 0 < length buffer.old }
         ensures bound { ReadsAtMost result buffer.new }
         ensures bytes { ReadConsumes (left self.old) (left self.new) result buffer.new }
         ensures cause { HasCause (faults self.old) (faults self.new) result };
 
-    /// The count of faults is below 2^64.
     ghost faults_fit: { (s : Self) → faults s < 2 ^ 64 };
 }
 
 /// Where bytes go.
 pub trait Sink {
-    /// The bytes that it took, where the sink tells them.
+    /// The bytes that it took, if the sink reports them.
     ghost taken: { Self → Option (List ℕ) };
 
-    /// How many bytes it took, where the sink counts them. A sink need not say so.
+    /// How many bytes it took, if the sink counts them.
     ghost counted: { Self → Option ℕ } = { λ _. None };
 
-    /// How many times it failed, which never falls.
+    /// How many writes failed. It never falls.
     ghost faults: { Self → ℕ };
 
-    /// Takes at least one byte of the front of the piece.
-    ///
-    /// `Failed` comes only where the count of faults rose, and then nothing was taken.
+    /// Takes at least one byte of the front of the piece. After `Failed` nothing was taken.
     fn write(&mut self, piece: &[u8]) -> Result<usize, Failed>
         requires { 0 < length piece.now }
         ensures bound { IfOk result (λ n. (0 < n) × (n ≤ length piece.now)) }
@@ -71,6 +66,5 @@ pub trait Sink {
         ensures counts { CountsTaken (counted self.old) (counted self.new) result }
         ensures cause { HasCause (faults self.old) (faults self.new) result };
 
-    /// The count of faults is below 2^64.
     ghost faults_fit: { (s : Self) → faults s < 2 ^ 64 };
 }

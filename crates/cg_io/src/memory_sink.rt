@@ -1,4 +1,3 @@
-//! A sink in memory, which fails when it is told to.
 ghost use Rattle.std.specs.Prelude.{◌≡◌, ℕ, ◌-◌, ◌^◌, ◌<◌, ◌≤◌, ◌↔◌, length, min, Some, IfOk, OnErr, IsErr};
 ghost use Rattle.std.specs.Io.KnownBytes.{WriteAppends};
 ghost use Rattle.std.proofs.Common.{rules};
@@ -11,9 +10,8 @@ use std::marker::Model;
 
 /// A sink in memory, which fails when it is told to.
 ///
-/// It takes at most `most` bytes a call, and `room` bytes in all. It fails at exactly the calls whose numbers, from 1,
-/// stand in `fails`, and at the calls that find no room left. Its count of faults is the number of failed calls. Both
-/// counters have 64 bits and stay at their end: every call from the one with the number 2^64 - 1 on has that number.
+/// It takes at most `most` bytes a call, and `room` bytes in all. It fails at the calls whose numbers, from 1, are in
+/// `fails`, and when no room is left. Both counters saturate at 2^64 - 1.
 #[derive(Drop)]
 pub struct MemorySink {
     bytes: Vec<u8>,
@@ -43,8 +41,7 @@ impl Model for MemorySink {
 }
 
 impl MemorySink {
-    /// A sink that takes `room` bytes in all, at most `most` in each call, and fails at the calls of these numbers.
-    /// The memory for all of the room is taken here, so that no write wants any.
+    /// It allocates all of the room here, so no write does.
     pub fn new(
         alloc: Global,
         room: usize,
@@ -64,7 +61,6 @@ impl MemorySink {
         })
     }
 
-    /// What it took.
     pub fn bytes(&self) -> &[u8]
         ensures { result.now ≡ self.now.bytes }
     {
@@ -79,14 +75,12 @@ impl Sink for MemorySink {
 
     ghost faults_fit = { λ m. Prim.search rules };
 
-    /// Takes as many bytes of the front of the piece as `most` and the room left allow.
     fn write(&mut self, piece: &[u8]) -> Result<usize, Failed>
         requires { 0 < length piece.now }
         ensures bound { IfOk result (λ n. (0 < n) × (n ≤ length piece.now)) }
         ensures bytes { WriteAppends (Some self.old.bytes) (Some self.new.bytes) result piece.now }
         ensures cause { HasCause (min self.old.faults (2 ^ 64 - 1)) (min self.new.faults (2 ^ 64 - 1)) result }
 
-        // It fails at exactly the calls that were named and those that find no room left.
         ensures fails { IsErr result ↔ FailsNext self.old }
         ensures count { IfOk result (λ n. n ≡ taken_len self.old piece.now) }
         ensures ok { IfOk result (λ n. self.new ≡ after_taking self.old piece.now n) }

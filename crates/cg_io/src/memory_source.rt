@@ -1,4 +1,3 @@
-//! A source in memory, which fails when it is told to.
 ghost use Rattle.std.specs.Prelude.{◌≡◌, ℕ, ◌-◌, ◌^◌, ◌<◌, ◌≤◌, ◌↔◌, length, min, Some, IfOk, OnErr, IsErr, Contains};
 ghost use Rattle.std.specs.Io.{ReadsAtMost};
 ghost use Rattle.std.specs.Io.KnownBytes.{ReadConsumes};
@@ -11,9 +10,8 @@ use std::marker::Model;
 
 /// A source in memory, which fails when it is told to.
 ///
-/// It gives at most `most` bytes a call. It fails at exactly the calls whose numbers, from 1, stand in `fails`. Its
-/// count of faults is the number of failed calls. Both counters have 64 bits and stay at their end: every call from
-/// the one with the number 2^64 - 1 on has that number.
+/// It gives at most `most` bytes a call. It fails at the calls whose numbers, from 1, are in `fails`. Both counters
+/// saturate at 2^64 - 1.
 #[derive(Drop)]
 pub struct MemorySource {
     bytes: Vec<u8>,
@@ -42,7 +40,6 @@ impl Model for MemorySource {
 }
 
 impl MemorySource {
-    /// A source of these bytes, which gives at most `most` in each call, and fails at the calls of these numbers.
     pub fn new(bytes: Vec<u8>, most: usize, fails: Vec<u64>) -> MemorySource
         requires { 0 < most }
         ensures { result ≡ fresh_supply bytes.items most fails.items }
@@ -65,14 +62,12 @@ impl Source for MemorySource {
 
     ghost faults_fit = { λ m. Prim.search rules };
 
-    /// Fills the buffer as far as `most` and the bytes left allow.
     fn read(&mut self, buffer: &mut [u8]) -> Result<usize, Failed>
         requires { 0 < length buffer.old }
         ensures bound { ReadsAtMost result buffer.new }
         ensures bytes { ReadConsumes (Some self.old.bytes) (Some self.new.bytes) result buffer.new }
         ensures cause { HasCause (min self.old.faults (2 ^ 64 - 1)) (min self.new.faults (2 ^ 64 - 1)) result }
 
-        // It fails at exactly the calls that were named.
         ensures fails { IsErr result ↔ Contains self.old.fails (one_more self.old.calls) }
         ensures count { IfOk result (λ n. n ≡ given_len self.old (length buffer.old)) }
         ensures ok { IfOk result (λ n. self.new ≡ after_giving self.old n) }

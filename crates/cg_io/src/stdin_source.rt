@@ -1,4 +1,3 @@
-//! A source over a reader of std.
 ghost use Rattle.std.specs.Prelude.{◌≡◌, ℕ, ◌-◌, ◌^◌, ◌<◌, length, min, None, OnOk, OnErr};
 ghost use Rattle.std.specs.Io.{ReadsAtMost};
 ghost use Rattle.std.specs.Io.KnownBytes.{ReadConsumes};
@@ -9,7 +8,7 @@ use crate::{Failed, Source};
 use std::io::Read;
 use std::marker::Model;
 
-/// A source over a reader of std, such as standard input. As a source it tells no bytes.
+/// A source over a reader of std, such as standard input. It doesn't report its bytes.
 #[derive(Drop)]
 pub struct StdinSource<R: Read + Drop> {
     reader: R,
@@ -25,7 +24,6 @@ impl<R: Read + Drop> Model for StdinSource<R> {
 }
 
 impl<R: Read + Drop> StdinSource<R> {
-    /// A source over this reader, with no faults so far.
     pub fn new(reader: R) -> StdinSource<R>
         ensures { result ≡ record { bytes = R.remaining reader; faults = 0 } }
     {
@@ -40,14 +38,14 @@ impl<R: Read + Drop> Source for StdinSource<R> {
 
     ghost faults_fit = { λ s. Prim.search rules };
 
-    /// Reads once. Each error of the reader is a fault.
+    /// Reads once. An error of the reader is a fault.
     fn read(&mut self, buffer: &mut [u8]) -> Result<usize, Failed>
         requires { 0 < length buffer.old }
         ensures bound { ReadsAtMost result buffer.new }
         ensures bytes { ReadConsumes None None result buffer.new }
         ensures cause { HasCause (min self.old.faults (2 ^ 64 - 1)) (min self.new.faults (2 ^ 64 - 1)) result }
 
-        // What is known of the reader's bytes, and the count.
+        // The reader's bytes, if they are known, and the count.
         ensures reads { ReadConsumes self.old.bytes self.new.bytes result buffer.new }
         ensures ok { OnOk result (self.new.faults ≡ self.old.faults) }
         ensures err { OnErr result (self.new.faults ≡ one_more self.old.faults) }

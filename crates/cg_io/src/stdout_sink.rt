@@ -1,4 +1,3 @@
-//! A sink over a writer of std.
 ghost use Rattle.std.specs.Prelude.{◌≡◌, ℕ, ◌-◌, ◌^◌, ◌<◌, ◌≤◌, length, take, min, None, Some, IfOk, OnOk, OnErr};
 ghost use Rattle.std.specs.Io.KnownBytes.{Appends, WriteAppends};
 ghost use Rattle.std.proofs.Common.{rules};
@@ -9,11 +8,11 @@ use crate::{Failed, Sink};
 use std::io::Write;
 use std::marker::Model;
 
-/// A sink over a writer of std, such as standard output. As a sink it tells no bytes, and counts those that it took.
+/// A sink over a writer of std, such as standard output. It reports how many bytes it took, not which.
 #[derive(Drop)]
 pub struct StdoutSink<W: Write + Drop> {
     writer: W,
-    // None once there were too many for a word.
+    // None after an overflow.
     counted: Option<u64>,
     faults: u64,
 }
@@ -27,7 +26,6 @@ impl<W: Write + Drop> Model for StdoutSink<W> {
 }
 
 impl<W: Write + Drop> StdoutSink<W> {
-    /// A sink over this writer, with no bytes and no faults so far.
     pub fn new(writer: W) -> StdoutSink<W>
         ensures { result ≡ record { bytes = W.contents writer; counted = Some 0; faults = 0 } }
     {
@@ -57,7 +55,7 @@ impl<W: Write + Drop> Sink for StdoutSink<W> {
         ensures counts { CountsTaken self.old.counted self.new.counted result }
         ensures cause { HasCause (min self.old.faults (2 ^ 64 - 1)) (min self.new.faults (2 ^ 64 - 1)) result }
 
-        // What is known of the writer's bytes, and the count.
+        // The writer's bytes, if they are known, and the count.
         ensures writes { IfOk result (λ n. Appends self.old.bytes self.new.bytes (take n piece.now)) }
         ensures ok { OnOk result (self.new.faults ≡ self.old.faults) }
         ensures err { OnErr result (self.new.faults ≡ one_more self.old.faults) }

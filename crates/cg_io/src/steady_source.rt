@@ -1,4 +1,3 @@
-//! A source over bytes in memory.
 ghost use Rattle.std.specs.Prelude.{◌≡◌, ℕ, ◌^◌, ◌<◌, ◌≤◌, List, length, min, drop, Some};
 ghost use Rattle.std.specs.Io.{ReadsAtMost};
 ghost use Rattle.std.specs.Io.KnownBytes.{ReadConsumes};
@@ -24,7 +23,6 @@ impl Model for SteadySource {
 }
 
 impl SteadySource {
-    /// A source of these bytes.
     pub fn new(bytes: Vec<u8>) -> SteadySource
         ensures { result ≡ bytes.items }
     {
@@ -39,7 +37,6 @@ impl Source for SteadySource {
 
     ghost faults_fit = { λ _. Prim.search rules };
 
-    /// Fills the buffer as far as the bytes go.
     fn read(&mut self, buffer: &mut [u8]) -> Result<usize, Failed>
         requires { 0 < length buffer.old }
         ensures bound { ReadsAtMost result buffer.new }

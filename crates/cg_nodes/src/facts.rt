@@ -13,8 +13,8 @@ use std::marker::{Model, PhantomData};
 
 const SPREAD: u64 = 0x9E37_79B9_7F4A_7C15;
 
-/// What a cell stands for. No value of it is made; contracts see a thing of one of five shapes: a number or a canonical
-/// game, a list of such games, contents of 32 bits, a pair of games, or a board.
+/// What a cell stands for, in contracts only: a number or a canonical game, a list of such games, contents of 32 bits,
+/// a pair of games, or a board.
 pub struct Thing {
     of: PhantomData<u8>,
     ghost meant: { Meant } by { meant_code },
@@ -36,25 +36,24 @@ impl Drop for Thing {
     }
 }
 
-/// What boards stand for: for the number of a board's game, its rows, its columns and the contents of its cells, the
-/// form of the position. It has no functions.
+/// What boards stand for, in contracts only: the form of a position, by the number of its game, its rows, its columns
+/// and the contents of its cells.
 pub trait BoardForms {
     ghost form: { ℕ → ℕ → ℕ → List ℕ → Game };
 }
 
-/// No boards: each board cell has the form of the number 0.
+/// No boards: each board cell stands for the number 0.
 pub struct NoBoards;
 
 impl BoardForms for NoBoards {
     ghost form = { λ number_of_game rows columns contents. number (whole (pos 0)) };
 }
 
-/// The facts of the cells of games. A key spells the thing of its kind that is made of its fields and of the things of
-/// the ids that it names. The key of a game spells one only where that game is canonical and so equals no number. The
-/// key of a long number spells it only where its chunks are those of a number that is long and in lowest terms. The key
-/// of a board spells one only where its game's number is 1 to 4, it has 1 to 64 cells, and its contents are exactly
-/// those of a board of that game's symbols. A note on a pair must spell the canonical form of the sum, and a note on a
-/// board that of the board's form.
+/// The facts of the cells of games. A key spells the thing of its kind that its fields and the things of its ids make.
+/// The key of a game spells one only if that game is canonical and equals no number. The key of a long number spells it
+/// only if its chunks are those of a long number in lowest terms. The key of a board spells one only if its game's
+/// number is 1 to 4, it has 1 to 64 cells, and its contents are exactly those of a board of that game's symbols. A note
+/// on a pair must spell the canonical form of the sum, and a note on a board that of the board's form.
 pub struct GameFacts<B: BoardForms> {
     of: PhantomData<B>,
 }

@@ -1,4 +1,3 @@
-//! Why no positions were listed.
 ghost use Rattle.std.specs.Prelude.{◌≡◌};
 
 use std::alloc::{AllocError, AllocFailed};
@@ -7,10 +6,8 @@ use thiserror::Error;
 /// Why no positions were listed.
 #[derive(Clone, Copy, Debug, PartialEq, Eq, Error)]
 pub enum PositionsFault {
-    /// There are more positions than the limit.
     #[error("more positions than the limit")]
     Positions,
-    /// There was no memory for them.
     #[error("out of memory")]
     Memory,
 }

@@ -9,14 +9,14 @@ use std::alloc::{AllocError, Global};
 use std::collections::HashSet;
 use std::marker::Model;
 
-// Up to so many handles are searched one by one.
+// Up to this many handles are searched one by one.
 const MOST_SEARCHED: usize = 64;
-// A set has room for so many ids from the first.
+// The first capacity of the set of ids.
 const ROOM_FOR_IDS: usize = 2 * MOST_SEARCHED;
-// The vector has room for so many handles from the first.
+// The first capacity of the vector of handles.
 const ROOM_FOR_HANDLES: usize = 16;
 
-/// Handles in the order in which they were found. Few are searched one by one, and more are looked up by their ids.
+/// Handles in the order in which they were found: a few are searched one by one, and more are looked up by their ids.
 /// Contracts see the list of handles.
 #[derive(Drop)]
 pub struct Found {
@@ -42,7 +42,6 @@ impl Model for Found {
 }
 
 impl Found {
-    /// No handles.
     pub fn new(alloc: Global) -> Result<Found, AllocError>
         ensures { IfOk result (λ found. found ≡ []) }
     {
@@ -53,7 +52,6 @@ impl Found {
         })
     }
 
-    /// Whether the handle was found.
     pub fn has(&self, handle: Handle) -> bool
         ensures { IsTrue result ↔ Has self.now handle }
     {
@@ -64,8 +62,7 @@ impl Found {
         }
     }
 
-    /// Puts one more handle behind those that were found, of which there may be so many. After an error they are as
-    /// before.
+    /// Appends a handle, unless there are `limit` already. After an error nothing has changed.
     pub fn add(&mut self, handle: Handle, limit: u64) -> Result<(), PositionsFault>
         requires { length self.old ≤ limit }
         ensures added { OnOk result (self.new ≡ self.old ++ (handle ∷ [])) }
@@ -78,7 +75,7 @@ impl Found {
         }
         self.handles.push(handle)?;
         if self.by_ids {
-            // Without room for the id, the handles are searched one by one again.
+            // If the id has no room, the handles are searched one by one again.
             self.by_ids = false;
             if self.ids.insert(handle.id().number()).is_err() {
                 self.handles.pop();
@@ -95,7 +92,6 @@ impl Found {
         Ok(())
     }
 
-    /// The handles, in their order.
     pub fn into_handles(self) -> Handles
         ensures { result ≡ self }
     {
@@ -108,7 +104,6 @@ impl Found {
     }
 }
 
-// Puts the ids of these handles, and no others, into the set.
 fn put_ids(ids: &mut HashSet<u32>, handles: &[Handle]) -> Result<(), AllocError>
     ensures { OnOk result ((h : ℕ) → IsTrue (contains (λ a b. a == b) ids.new h) ↔ Has handles.now h) }
 {

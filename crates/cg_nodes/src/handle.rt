@@ -1,4 +1,3 @@
-//! Handles of numbers and games, and of lists of them.
 ghost use Rattle.std.specs.Prelude.{◌≡◌, ◌↔◌, IsTrue, [], length};
 
 use cg_cells::Id;
@@ -22,14 +21,12 @@ impl Model for Handle {
 }
 
 impl Handle {
-    /// The handle of this id.
     pub fn of(id: Id) -> Handle
         ensures { result ≡ id }
     {
         Handle { id }
     }
 
-    /// The id of the handle.
     pub fn id(&self) -> Id
         ensures { result ≡ self.now }
     {
@@ -40,7 +37,7 @@ impl Handle {
 impl Default for Handle {
     ghost is_default = { λ h. h ≡ 0 };
 
-    /// The handle of the first cell: a blank for lists that keep unused places.
+    /// The handle of the first cell, as a placeholder.
     fn default() -> Self {
         Handle { id: Id::new(0) }
     }
@@ -49,9 +46,8 @@ impl Default for Handle {
 /// Whether a handle stands for a number.
 #[derive(Clone, Copy, Debug, PartialEq, Eq)]
 pub enum Kind {
-    /// It stands for this number.
     Number(Dyadic),
-    /// It stands for a game that equals no number.
+    /// A game that equals no number.
     Game,
 }
 
@@ -89,35 +85,30 @@ impl Model for Handles {
 }
 
 impl Handles {
-    /// These handles.
     pub fn of(items: Vec<Handle>) -> Handles
         ensures { result ≡ items.items }
     {
         Handles { items }
     }
 
-    /// How many there are.
     pub fn len(&self) -> usize
         ensures { result ≡ length self.now }
     {
         self.items.len()
     }
 
-    /// Whether there is none.
     pub fn is_empty(&self) -> bool
         ensures { IsTrue result ↔ (self.now ≡ []) }
     {
         self.items.is_empty()
     }
 
-    /// The handles, in their order.
     pub fn as_slice(&self) -> &[Handle]
         ensures { result.now ≡ self.now }
     {
         &self.items
     }
 
-    /// The handles, in their order, taken out.
     pub fn into_vec(self) -> Vec<Handle>
         ensures { result.items ≡ self }
     {

@@ -18,9 +18,9 @@ pub fn canonical_forms()
     ensures test { (g : Game) → (is_canonical g ≡ true) ↔ Canonical g }
 {}
 
-/// The test of a board's contents passes exactly where they are written for some board of so many cells, each with one
-/// of so many symbols. A key with these contents spells a board exactly where they are those of a board of this game
-/// with 1 to 64 cells; then the game has a number from 1 to 4, and there are at most four contents.
+/// The test of a board's contents passes exactly if they are written for some board of `count` cells with `size`
+/// symbols. A key with these contents spells a board exactly if they are those of a board of this game with 1 to 64
+/// cells; then the game has a number from 1 to 4, and there are at most four contents.
 pub fn boards()
     ensures contents { (count size : ℕ) (contents : List ℕ) → count ≤ 4
         → (are_contents count size contents ≡ true) ↔ IsBoard count size contents }
@@ -31,7 +31,7 @@ pub fn boards()
         → (t ≡ board number rows columns contents) × (1 ≤ number) × (number ≤ 4) × (length contents ≤ 4) }
 {}
 
-/// The sign, the exponent and the chunks of a long number in range spell it, and what others spell is such a number. A
+/// The sign, the exponent and the chunks of a long number in range spell it, and only such numbers are spelled. A
 /// number takes at most three cells.
 pub fn long_numbers()
     ensures written { (x : Number) → InRange x → is_long x ≡ true

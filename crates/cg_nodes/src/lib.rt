@@ -1,13 +1,12 @@
 //! Numbers, lists and games in the cells of a store.
 //!
-//! A [`Handle`] is the id of a number or a game, and stands for one form: a number where the game equals one, and else
-//! a canonical game. Different handles of a store stand for different games. A [`ListId`] is the id of a list of
-//! handles. The calls are generic over the store, and each leaves what is known, noted and spared as it was, but for
-//! what it claims.
+//! A [`Handle`] is the id of a number or a game, and stands for one form: a number if the game equals one, otherwise a
+//! canonical game. Different handles of a store stand for different games. A [`ListId`] is the id of a list of handles.
+//! The calls are generic over the store; each changes what is known, noted and spared only by what it claims.
 //!
 //! [`number`], [`list`] and [`game`] claim cells; [`kind`], [`options`], [`positions`] and [`compare_structure`] read
-//! them, over [`read`], [`head`] and [`handles`]. Only what answers a list of handles takes memory, and [`Found`],
-//! which keeps handles. [`known_game`] does nothing, and tells what holds of each game of a store.
+//! them, over [`read`], [`head`] and [`handles`]. Only calls that answer a list of handles allocate, and [`Found`],
+//! which keeps handles. [`known_game`] does nothing; its contract says what holds of each game of a store.
 #![tactic(auto)]
 
 mod facts;

@@ -12,15 +12,12 @@ use crate::{BoardForms, GameFacts, Handle};
 use cg_cells::{CellStore, Id, Key, KeyParts};
 use cg_dyadic::Dyadic;
 
-/// The values of a chunk.
+/// How many values a chunk has.
 const CHUNK: u64 = 1 << 32;
 
-/// A content and the chunk after it.
 #[derive(Clone, Copy, Debug, PartialEq, Eq)]
 pub struct Chunk {
-    /// The content.
     pub content: u32,
-    /// The chunk after it.
     pub next: Option<Id>,
 }
 
@@ -36,14 +33,12 @@ fn bits_of(num: i128) -> u64
     }
 }
 
-// Whether the numerator is below 0.
 fn is_negative(num: i128) -> bool
     ensures { result ≡ is_negative num }
 {
     num < 0
 }
 
-// The numerator of this sign with these chunks.
 fn num_in(negative: bool, low: u32, high: u32) -> i128
     ensures { result ≡ num_in negative (low + 2 ^ 32 * high) }
 {
@@ -55,7 +50,7 @@ fn num_in(negative: bool, low: u32, high: u32) -> i128
     }
 }
 
-// Two chunks of these bits, the least first.
+// Two chunks for these bits, the low one first.
 fn chunks<B: BoardForms, S: CellStore<GameFacts<B>>>(store: &mut S, bits: u64) -> Id
     requires { 2 ≤ (S.state store.old).spare }
     ensures chunks { thing_at (S.state store.new) result ≡ Some (contents (bits % 2 ^ 32 ∷ bits / 2 ^ 32 ∷ [])) }
@@ -93,7 +88,6 @@ pub(crate) fn claim_long<B: BoardForms, S: CellStore<GameFacts<B>>>(
     Handle::of(store.claim(key))
 }
 
-// The content of the chunk and the chunk after it.
 fn chunk_of<B: BoardForms, S: CellStore<GameFacts<B>>>(store: &mut S, id: Id) -> Chunk
     requires { IsSome (contents_in (thing_at (S.state store.old) id)) }
     ensures chunk { IsChunk (S.state store.new) result (contents_in (thing_at (S.state store.old) id)) }
@@ -106,7 +100,6 @@ fn chunk_of<B: BoardForms, S: CellStore<GameFacts<B>>>(store: &mut S, id: Id) ->
     }
 }
 
-// The number of this sign and exponent with these chunks.
 fn number_of_chunks(negative: bool, exp: u8, low: u32, high: u32) -> Dyadic
     requires { is_long_written negative exp low high ≡ true }
     ensures { result ≡ ratio (num_in negative (low + 2 ^ 32 * high)) exp }
@@ -114,7 +107,6 @@ fn number_of_chunks(negative: bool, exp: u8, low: u32, high: u32) -> Dyadic
     Dyadic::of_lowest(num_in(negative, low, high), exp)
 }
 
-/// The number of this sign and exponent, whose chunks begin with the first.
 pub(crate) fn read_long<B: BoardForms, S: CellStore<GameFacts<B>>>(
     store: &mut S,
     first: Id,

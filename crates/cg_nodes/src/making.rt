@@ -40,7 +40,6 @@ pub fn number<B: BoardForms, S: CellStore<GameFacts<B>>>(store: &mut S, x: Dyadi
     }
 }
 
-// The list with one more game before it.
 fn prepend<B: BoardForms, S: CellStore<GameFacts<B>>>(
     store: &mut S,
     first: Handle,
@@ -59,7 +58,7 @@ fn prepend<B: BoardForms, S: CellStore<GameFacts<B>>>(
     }
 }
 
-/// The list of the games of the handles, in their order. It spends a claim for each.
+/// The list of the games of the handles, in order. It spends a claim for each.
 pub fn list<B: BoardForms, S: CellStore<GameFacts<B>>>(store: &mut S, options: &[Handle]) -> ListId
     requires spare { length options.now ≤ (S.state store.old).spare }
     requires games { AreGames (S.state store.old) options.now }
@@ -73,8 +72,7 @@ pub fn list<B: BoardForms, S: CellStore<GameFacts<B>>>(store: &mut S, options: &
     list
 }
 
-// Tells the store that the list of these games may be claimed soon. It answers the id that the list would most likely
-// have.
+// Hints that the list of these games may be claimed soon. It answers the id that the list would most likely have.
 fn prefetch_list<B: BoardForms, S: CellStore<GameFacts<B>>>(
     store: &mut S,
     options: &[Handle],
@@ -89,8 +87,8 @@ fn prefetch_list<B: BoardForms, S: CellStore<GameFacts<B>>>(
     list
 }
 
-/// Tells the store that the game of the lists of these Left and Right options may be claimed soon, so that it may bring
-/// the cells of both lists and of the game near. Nothing that contracts see changes.
+/// Hints that the game with these Left and Right options may be claimed soon, so that the store may load the cells of
+/// both lists and of the game into the cache.
 pub fn prefetch_game<B: BoardForms, S: CellStore<GameFacts<B>>>(
     store: &mut S,
     lefts: &[Handle],
@@ -110,8 +108,8 @@ pub fn prefetch_game<B: BoardForms, S: CellStore<GameFacts<B>>>(
     }
 }
 
-/// The handle of the game with these lists of Left and Right options, which must be canonical and so equals no number.
-/// It spends one claim.
+/// The handle of the game with these lists of Left and Right options, which must be canonical and equal no number. It
+/// spends one claim.
 pub fn game<B: BoardForms, S: CellStore<GameFacts<B>>>(
     store: &mut S,
     lefts: ListId,

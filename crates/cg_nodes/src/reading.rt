@@ -28,22 +28,17 @@ pub enum Reading {
 /// The first handle of a list, and the list of the others.
 #[derive(Clone, Copy, Debug, PartialEq, Eq)]
 pub struct Split {
-    /// The first handle.
     pub first: Handle,
-    /// The list of the others.
     pub rest: ListId,
 }
 
-/// The options of a game.
+/// The options of a game, in rising structural order.
 #[derive(Debug, Drop)]
 pub struct Sides {
-    /// The Left options, in rising structural order.
     pub lefts: Handles,
-    /// The Right options, in rising structural order.
     pub rights: Handles,
 }
 
-// The number of these parts of a key.
 fn number_of(num: i64, exp: u8) -> Dyadic
     requires { FieldsFit (parts.Number num exp) }
     ensures { result ≡ ratio num exp }
@@ -51,7 +46,7 @@ fn number_of(num: i64, exp: u8) -> Dyadic
     Dyadic::of_lowest(i128::from(num), exp)
 }
 
-/// What the handle stands for. That game is canonical, and if it is a number, it is in range.
+/// What the handle stands for. That game is canonical, and a number is in range.
 pub fn read<B: BoardForms, S: CellStore<GameFacts<B>>>(store: &mut S, handle: Handle) -> Reading
     requires { IsGame (S.state store.old) handle }
     ensures game { IsRead (S.state store.new) result (game_at (S.state store.old) handle) }
@@ -74,8 +69,8 @@ pub fn read<B: BoardForms, S: CellStore<GameFacts<B>>>(store: &mut S, handle: Ha
     }
 }
 
-/// A known game is canonical, and each number in its tree is in range. It does nothing, and its contract is the fact:
-/// where [`read`] tells it of the number that is read, this tells it of the whole tree.
+/// Fact: a known game is canonical, and each number in its tree is in range. The call does nothing: [`read`] tells this
+/// of the number that is read, and `known_game` of the whole tree.
 pub fn known_game<B: BoardForms, S: CellStore<GameFacts<B>>>(store: &S, handle: Handle)
     requires { IsGame (S.state store.now) handle }
     ensures canonical { Canonical (game_at (S.state store.now) handle) }
@@ -84,7 +79,6 @@ pub fn known_game<B: BoardForms, S: CellStore<GameFacts<B>>>(store: &S, handle: 
     let _same = store.same(handle.id(), handle.id());
 }
 
-/// The number that the handle stands for, or that it stands for a game that equals no number.
 pub fn kind<B: BoardForms, S: CellStore<GameFacts<B>>>(store: &mut S, handle: Handle) -> Kind
     requires { IsGame (S.state store.old) handle }
     ensures kind { IsKind result (game_at (S.state store.old) handle) }
@@ -98,7 +92,7 @@ pub fn kind<B: BoardForms, S: CellStore<GameFacts<B>>>(store: &mut S, handle: Ha
     }
 }
 
-/// The first handle of the list, and the list of the others. None comes exactly for the empty list.
+/// The first handle of the list and the list of the others, or None for the empty list.
 pub fn head<B: BoardForms, S: CellStore<GameFacts<B>>>(store: &mut S, list: ListId) -> Option<Split>
     requires { IsList (S.state store.old) list }
     ensures head { IsHead (S.state store.new) result (listed (S.state store.old) list) }
@@ -115,7 +109,6 @@ pub fn head<B: BoardForms, S: CellStore<GameFacts<B>>>(store: &mut S, list: List
     })
 }
 
-/// The handles of the list, in its order. The only error is want of memory.
 pub fn handles<B: BoardForms, S: CellStore<GameFacts<B>>>(
     alloc: Global,
     store: &mut S,
@@ -134,7 +127,7 @@ pub fn handles<B: BoardForms, S: CellStore<GameFacts<B>>>(
     Ok(Handles::of(all))
 }
 
-/// The handles of the options of a game that isn't a number, in their order. The only error is want of memory.
+/// The options of a game that isn't a number.
 pub fn options<B: BoardForms, S: CellStore<GameFacts<B>>>(
     alloc: Global,
     store: &mut S,

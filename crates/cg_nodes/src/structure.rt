@@ -11,7 +11,7 @@ use crate::{BoardForms, GameFacts, Handle, ListId, Reading, head, read};
 use cg_cells::CellStore;
 use std::cmp::Ordering;
 
-/// How two games, or two lists of options, part.
+/// Where two games, or two lists of options, first differ.
 #[derive(Clone, Copy)]
 enum Parting {
     /// They are the same.
@@ -20,11 +20,11 @@ enum Parting {
     Before,
     /// The first comes after the second.
     After,
-    /// Their order is that of these two, which are different: the first options in which they part.
+    /// They are ordered as these two different games are, the first options that differ.
     At(Handle, Handle),
 }
 
-// How two lists part: at their first options that differ, or where one ends before the other.
+// At their first options that differ, or where one list ends before the other.
 fn parting_of_lists<B: BoardForms, S: CellStore<GameFacts<B>>>(
     store: &mut S,
     left: ListId,
@@ -55,7 +55,7 @@ fn parting_of_lists<B: BoardForms, S: CellStore<GameFacts<B>>>(
     }
 }
 
-// How two games part that aren't numbers: in their Left options, and else in their Right options.
+// In their Left options, otherwise in their Right options.
 fn parting_of_nodes<B: BoardForms, S: CellStore<GameFacts<B>>>(
     store: &mut S,
     left: (ListId, ListId),
@@ -76,7 +76,6 @@ fn parting_of_nodes<B: BoardForms, S: CellStore<GameFacts<B>>>(
     }
 }
 
-// How two games part.
 fn parting_of_games<B: BoardForms, S: CellStore<GameFacts<B>>>(
     store: &mut S,
     left: Handle,
@@ -110,8 +109,8 @@ fn parting_of_games<B: BoardForms, S: CellStore<GameFacts<B>>>(
 }
 
 /// The structural order: numbers before other games, and by value; other games by their lists of Left options, then by
-/// their lists of Right options. Lists are compared entry by entry, and a proper prefix comes first. `Equal` comes
-/// exactly for the same handle. It takes no memory, and follows one option of each game at most.
+/// their lists of Right options. Lists are compared entry by entry, and a proper prefix comes first. It allocates
+/// nothing, and follows at most one option of each game.
 pub fn compare_structure<B: BoardForms, S: CellStore<GameFacts<B>>>(
     store: &mut S,
     a: Handle,

@@ -13,8 +13,7 @@ use crate::{BoardForms, GameFacts, Handle, Handles, ListId, PositionsFault, Read
 use cg_cells::CellStore;
 use std::alloc::Global;
 
-// Puts the positions of the game behind those that were found. A game that was found before has all of its positions
-// there.
+// Appends the positions of the game. If the game was found before, so were all of its positions.
 #[cycle(walk)]
 fn walk_game<B: BoardForms, S: CellStore<GameFacts<B>>>(
     store: &mut S,
@@ -41,7 +40,7 @@ fn walk_game<B: BoardForms, S: CellStore<GameFacts<B>>>(
     found.add(handle, limit)
 }
 
-// Puts the positions of the options behind those that were found. A number has no positions but itself.
+// Appends the positions of the options. A number has no positions but itself.
 #[cycle(walk)]
 fn walk_options<B: BoardForms, S: CellStore<GameFacts<B>>>(
     store: &mut S,
@@ -69,7 +68,6 @@ fn walk_options<B: BoardForms, S: CellStore<GameFacts<B>>>(
     }
 }
 
-// Puts the positions of each game of the list behind those that were found.
 #[cycle(walk)]
 fn walk_list<B: BoardForms, S: CellStore<GameFacts<B>>>(
     store: &mut S,
@@ -96,9 +94,9 @@ fn walk_list<B: BoardForms, S: CellStore<GameFacts<B>>>(
     Ok(())
 }
 
-/// The handles of the positions of the game: of a number itself alone, and of another game those of each Left option in
-/// order, those of each Right option in order, then the game itself, each only where it comes first. `Positions` comes
-/// exactly where there are more than `limit`. `Memory` is the other error.
+/// The handles of the positions of the game, without repeats, in order of first occurrence: a number's only position is
+/// itself; another game's are those of each Left option, those of each Right option, then the game itself. `Positions`
+/// says that there are more than `limit`.
 pub fn positions<B: BoardForms, S: CellStore<GameFacts<B>>>(
     alloc: Global,
     store: &mut S,

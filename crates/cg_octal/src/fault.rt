@@ -1,4 +1,3 @@
-//! Why a text and a heap are no octal game.
 ghost use Rattle.std.specs.Prelude.{◌≡◌};
 
 use std::alloc::AllocError;
@@ -7,13 +6,11 @@ use thiserror::Error;
 /// Why the code or the heap is refused.
 #[derive(Clone, Copy, Debug, PartialEq, Eq, Error)]
 pub enum OctalFault {
-    /// The text is no code; the place is 1 plus the length of its longest prefix that begins one.
+    /// The text is no code; the column is 1 plus the length of its longest prefix that begins a code.
     #[error("no octal code at {0}")]
     Code(u64),
-    /// The heap has more than 1,000 tokens.
     #[error("the heap is too large")]
     Heap,
-    /// Memory was wanting.
     #[error("out of memory")]
     Memory,
 }

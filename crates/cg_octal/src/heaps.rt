@@ -10,7 +10,7 @@ use crate::octal::Octal;
 use crate::options::with_options;
 use std::alloc::{AllocError, Global};
 
-/// The value of the heap that has as many tokens as there are values of lesser heaps.
+/// The value of the next heap, from those of all smaller heaps.
 fn next_value(alloc: Global, digits: &[u8], values: &[u64]) -> Result<u64, AllocError>
     requires { AreValues digits.now values.now }
     ensures value { IfOk result (λ k. Equal (heap digits.now (length values.now)) (nimber_form k)) }
@@ -20,9 +20,8 @@ fn next_value(alloc: Global, digits: &[u8], values: &[u64]) -> Result<u64, Alloc
     least_missing(alloc, &found)
 }
 
-/// The values of the heaps from 0 tokens up to that of the game: the n-th is the k with `heap n = *k`. The only error
-/// is want of memory. It takes memory for as many numbers as the heap has tokens, a few times over, and the time of
-/// their square. (Siegel, Combinatorial Game Theory (2013), IV.2.)
+/// The values of the heaps of 0 tokens up to the game's own: the n-th is the k with `heap n = *k`. Time is quadratic in
+/// the tokens, memory linear. (Siegel, Combinatorial Game Theory (2013), IV.2.)
 pub fn values(alloc: Global, octal: &Octal) -> Result<Values, AllocError>
     ensures count { IfOk result (λ all. length all ≡ octal.now.heap + 1) }
     ensures values { IfOk result (λ all. AreValues octal.now.digits all) }

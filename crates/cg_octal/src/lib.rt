@@ -1,8 +1,8 @@
 //! Octal games: heaps of tokens, and their values as nimbers.
 //!
-//! A code as `0.77` says what may be left of a heap when one token is removed, when two are, and so on. Contracts see a
-//! heap in such a game as the game of its moves, `heap`. [`read`] takes a code and a heap, or says why it doesn't;
-//! [`values`] gives for each heap the nimber that it equals, by the least number that none of its options has.
+//! A code such as `0.77` says what may be left of a heap when one token is removed, when two are, and so on. Contracts
+//! see a heap in such a game as the game of its moves, `heap`. [`read`] takes a code and a heap, or says why it refuses
+//! them; [`values`] gives for each heap the nimber that it equals, by the least number that none of its options has.
 #![tactic(auto)]
 
 mod fault;

@@ -1,4 +1,4 @@
-//! The least natural number that a list hasn't.
+//! The least natural number that isn't in a list. It is at most the list's length.
 ghost use Rattle.std.specs.Prelude.{IfOk};
 ghost use Rattle.cg_octal.specs.Found.{AreMarks};
 ghost use Rattle.cg_octal.specs.Mex.{IsLeastMissing};
@@ -19,7 +19,6 @@ fn marks_of(alloc: Global, list: &[u64]) -> Result<Vec<bool>, AllocError>
     Ok(marks)
 }
 
-/// The least natural number that the list hasn't. It is at most the list's length.
 pub(crate) fn least_missing(alloc: Global, list: &[u64]) -> Result<u64, AllocError>
     ensures { IfOk result (IsLeastMissing list.now) }
 {

@@ -1,4 +1,3 @@
-//! A heap of an octal game.
 ghost use Rattle.std.specs.Prelude.{◌≡◌, ◌≤◌, length};
 ghost use Rattle.cg_octal.specs.Codes.{AreOctal, IsOctalHeap};
 
@@ -26,7 +25,6 @@ impl Model for Octal {
 }
 
 impl Octal {
-    /// The game of these digits, and this heap of it.
     pub(crate) fn of(digits: Vec<u8>, heap: u64) -> Octal
         requires { IsOctalHeap (record { digits = digits.items; heap = heap }) }
         ensures digits { result.digits ≡ digits.items }
@@ -45,7 +43,6 @@ impl Octal {
         &self.digits
     }
 
-    /// How many tokens the heap has, at most 1,000.
     pub fn heap(&self) -> u64
         ensures value { result ≡ self.now.heap }
         ensures within { result ≤ 1000 }

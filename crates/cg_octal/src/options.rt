@@ -1,4 +1,4 @@
-//! The values of the options of a heap, from those of the lesser heaps.
+//! The values of the options of a heap, from those of smaller heaps.
 ghost use Rattle.std.specs.Prelude.{◌≡◌, ◌<◌, ◌≤◌, ◌/◌, ◌∷◌, ◌++◌, [], IfOk, if◌then◌else◌, length, suc};
 ghost use Rattle.cg_octal.specs.Found.{Adds};
 ghost use Rattle.cg_octal.specs.Heaps.{AreValues, digit_options, heap, heap_options, leaves_nothing};
@@ -6,28 +6,25 @@ ghost use Rattle.cg_octal.specs.Heaps.{leaves_one_heap, leaves_two_heaps, two_he
 
 use std::alloc::AllocError;
 
-/// Whether nothing may be left, where nothing is.
 fn leaves_nothing(digit: u8, left: usize) -> bool
     ensures { result ≡ leaves_nothing digit left }
 {
     left == 0 && digit % 2 == 1
 }
 
-/// Whether what is left may be one heap.
 fn leaves_one_heap(digit: u8, left: usize) -> bool
     ensures { result ≡ leaves_one_heap digit left }
 {
     left > 0 && digit / 2 % 2 == 1
 }
 
-/// Whether what is left may be two heaps.
 fn leaves_two_heaps(digit: u8) -> bool
     ensures { result ≡ leaves_two_heaps digit }
 {
     digit / 4 % 2 == 1
 }
 
-/// The list, with the value behind it where the test says so.
+/// Appends the value if the test holds.
 fn with_value(test: bool, value: u64, found: Vec<u64>) -> Result<Vec<u64>, AllocError>
     ensures { IfOk result (λ all. all.items ≡ found.items ++ (if test then value ∷ [] else [])) }
 {
@@ -38,7 +35,7 @@ fn with_value(test: bool, value: u64, found: Vec<u64>) -> Result<Vec<u64>, Alloc
     Ok(all)
 }
 
-/// The list, with the values behind it of the sums of two heaps that together have `left` tokens.
+/// Appends the values of the sums of two heaps with `left` tokens together.
 fn with_two_heaps(
     digits: &[u8],
     values: &[u64],
@@ -57,7 +54,7 @@ fn with_two_heaps(
     Ok(all)
 }
 
-/// The list, with the values behind it of the options by one digit, with `left` tokens left.
+/// Appends the values of the options by one digit, with `left` tokens left.
 fn with_digit_options(
     digits: &[u8],
     values: &[u64],
@@ -78,8 +75,7 @@ fn with_digit_options(
     }
 }
 
-/// The list, with the values behind it of the options of a heap of `count` tokens by the further digits, of which the
-/// first is that of removing one token.
+/// Appends the values of the options of a heap of `count` tokens by these digits, the first for removing one token.
 pub(crate) fn with_options(
     digits: &[u8],
     values: &[u64],

@@ -23,7 +23,7 @@ fn fits(at: usize, byte: u8) -> bool
     }
 }
 
-/// How many bytes in front may stand where they stand, from this place on.
+/// The length of the longest front of the bytes that fits, from this place on.
 fn fit_length(at: usize, bytes: &[u8]) -> usize
     requires { at ≤ 18 }
     ensures count { result ≡ fit_length at bytes.now }
@@ -41,7 +41,7 @@ fn fit_length(at: usize, bytes: &[u8]) -> usize
     }
 }
 
-/// The digits that were found, and those that these bytes write.
+/// Appends the digits that these bytes write.
 fn with_digits(bytes: &[u8], found: Vec<u8>) -> Result<Vec<u8>, AllocError>
     ensures { IfOk result (λ all. all.items ≡ found.items ++ map (λ b. b - 48) bytes.now) }
 {
@@ -55,11 +55,10 @@ fn with_digits(bytes: &[u8], found: Vec<u8>) -> Result<Vec<u8>, AllocError>
     }
 }
 
-/// The octal game of the code, and the heap of it.
+/// Reads a code, `0.` and 1 to 16 digits from 0 to 7, and a heap of it.
 ///
-/// A code is `0.` and 1 to 16 digits from 0 to 7. `Code` comes exactly where the text is no code, with 1 plus the
-/// length of its longest prefix that begins one. Else `Heap` comes exactly where the heap has more than 1,000 tokens.
-/// `Memory` is the other error.
+/// `Code` has 1 plus the length of the text's longest prefix that begins a code. A text that is no code is reported
+/// before a heap of more than 1,000 tokens.
 pub fn read(alloc: Global, code: &[u8], heap: u128) -> Result<Octal, OctalFault>
     ensures read { IsRead code.now heap result }
     ensures digits { IfOk result (λ octal. octal.digits ≡ digits_of code.now) }

@@ -1,4 +1,4 @@
-//! What workers do that hold something from line to line.
+//! Jobs whose workers keep a cache.
 ghost use Rattle.std.specs.Prelude.{◌≡◌, ℕ, ◌<◌, ◌≤◌, IfOk};
 ghost use Rattle.std.specs.FinMap as map;
 ghost use Rattle.std.specs.Ordering.{nat_cmp};
@@ -11,13 +11,11 @@ use cg_cells::Facts;
 use cg_shared::Desk;
 use std::alloc::{AllocError, Global};
 
-/// A job whose workers hold a cache from line to line. Contracts see what they see of a [`Job`], and when a cache is
-/// right under what is known. What the cache has stays right when more is known. Each `Job` is one that holds nothing.
+/// A [`Job`] whose workers keep a cache from line to line. Contracts also see when a cache is right, given what is
+/// known; it stays right when more is known. Every `Job` is a `CachingJob` that keeps nothing.
 pub trait CachingJob<F: Facts>: Sync {
-    /// The answer to one line.
     type Answer: Send + Drop;
 
-    /// What a worker holds from line to line.
     type Cache: Send + Drop;
 
     ghost count: { Self → ℕ };
@@ -28,13 +26,12 @@ pub trait CachingJob<F: Facts>: Sync {
 
     ghost holds: { Self.Cache → map.FinMap nat_cmp F.Thing → Type 0 };
 
-    /// What a worker begins with. It is right whatever is known.
+    /// A worker's first cache.
     fn start(&self, alloc: Global) -> Self::Cache
         ensures { (f : map.FinMap nat_cmp F.Thing) → holds result f };
 
-    /// Answers the line with this index over a desk. Whatever it answers, the desk holds the same pass of the same
-    /// table, which has the tickets, heirs and meets that it had, and knows what it knew. With an answer, what the
-    /// worker holds is right; of what an error leaves of it nothing is said.
+    /// Answers the line with this index. The desk keeps its table, its pass, and the pass's tickets, heirs and meets,
+    /// and forgets nothing. After an answer the cache is right; nothing is said of it after an error.
     fn work(
         &self,
         alloc: Global,

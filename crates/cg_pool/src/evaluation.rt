@@ -11,8 +11,7 @@ use cg_shared::{Pass, SharedCells, StartFault};
 use std::alloc::{AllocError, Global};
 use std::thread::Threads;
 
-/// The answers of all lines, in order, the table over which they were made, and a pass of it that knows all that they
-/// speak of.
+/// The answers of all lines, in order, the table, and a pass of it that knows every id in them.
 #[derive(Drop)]
 pub struct Evaluated<F: Facts, A: Drop> {
     pub answers: Vec<A>,
@@ -20,8 +19,8 @@ pub struct Evaluated<F: Facts, A: Drop> {
     pub pass: Pass<F>,
 }
 
-/// Answers so many lines of a job, each on so many cells of one new table, by so many workers. The ticket of a line is
-/// its index. Which worker takes which line is left open. The only error is want of memory.
+/// Answers `count` lines of a job with `workers` workers, over one new table with `share` cells a line. The ticket of a
+/// line is its index; any worker may take any line.
 pub fn evaluate<R: Threads + Sync, F: Facts + Sync, J: CachingJob<F>, G: Gate>(
     rt: &R,
     alloc: Global,
@@ -47,8 +46,8 @@ pub fn evaluate<R: Threads + Sync, F: Facts + Sync, J: CachingJob<F>, G: Gate>(
     evaluate_by_weight::<R, F, J, G>(rt, alloc, &weights, share, workers, job, gate)
 }
 
-/// Answers the lines of a job that have these weights as [`evaluate`] does, but that lines of greater weight are begun
-/// first: the n-th ticket is the line with the n-th greatest weight, and lines of one weight stay in their order.
+/// Like [`evaluate`], but heavier lines begin first: the n-th ticket is the line with the n-th greatest weight. Lines
+/// of equal weight keep their order.
 pub fn evaluate_by_weight<R: Threads + Sync, F: Facts + Sync, J: CachingJob<F>, G: Gate>(
     rt: &R,
     alloc: Global,

@@ -1,15 +1,10 @@
-//! Gates.
-
-/// What is told when a line is begun and when it is done. It says nothing of answers.
+/// Called when a worker begins a line and when it is done, with the line's index. It doesn't see answers.
 pub trait Gate: Sync {
-    /// The line with this index is begun.
     fn enter(&self, index: u64);
 
-    /// The line with this index is done.
     fn leave(&self, index: u64);
 }
 
-/// The gate that does nothing.
 pub struct NoGate;
 
 impl Gate for NoGate {

@@ -1,4 +1,3 @@
-//! What workers do.
 ghost use Rattle.std.specs.Prelude.{◌≡◌, ℕ, ◌<◌, ◌≤◌, IfOk};
 ghost use Rattle.std.specs.FinMap as map;
 ghost use Rattle.std.specs.Ordering.{nat_cmp};
@@ -11,9 +10,8 @@ use cg_shared::Desk;
 use std::alloc::{AllocError, Global};
 
 /// Lines that can be answered in any order. Contracts see how many there are, the spare that an answer needs, and which
-/// answers are good for a line under what is known. An answer stays good when more is known.
+/// answers are good for a line, given what is known. An answer stays good when more is known.
 pub trait Job<F: Facts>: Sync {
-    /// The answer to one line.
     type Answer: Send + Drop;
 
     ghost count: { Self → ℕ };
@@ -22,8 +20,8 @@ pub trait Job<F: Facts>: Sync {
 
     ghost good: { Self → ℕ → Self.Answer → map.FinMap nat_cmp F.Thing → Type 0 };
 
-    /// Answers the line with this index over a desk. Whatever it answers, the desk holds the same pass of the same
-    /// table, which has the tickets, heirs and meets that it had, and knows what it knew.
+    /// Answers the line with this index. The desk keeps its table, its pass, and the pass's tickets, heirs and meets,
+    /// and forgets nothing.
     fn work(
         &self,
         alloc: Global,

@@ -1,5 +1,4 @@
-//! Workers that answer lines over one shared table, and whatever each line's answer is, one good answer for each, in
-//! order.
+//! Workers that answer lines over one shared table: one good answer for each line, in order, whatever the schedule.
 #![tactic(auto)]
 
 mod caching;

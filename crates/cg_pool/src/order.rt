@@ -5,8 +5,7 @@ ghost use Rattle.cg_pool.specs.Answers.{numbers, AreOrdered, IsFalling, IsOrder,
 
 use std::alloc::{AllocError, Global};
 
-/// A number that rises along the order: it is less for a line of greater weight, and of lines of one weight for the
-/// earlier one.
+/// A sort key: less for a greater weight, and for the earlier of two lines of equal weight.
 fn place_of(weights: &[u64], line: u64) -> u128
     ensures { result ≡ place weights.now line }
 {
@@ -17,7 +16,7 @@ fn place_of(weights: &[u64], line: u64) -> u128
     u128::from(u64::MAX - weight) * (1 << 64) + u128::from(line)
 }
 
-/// The lines that have these weights, in falling order of them. Lines of one weight stay as they stand.
+/// The lines in falling order of weight. Lines of equal weight keep their order.
 pub(crate) fn by_weight(alloc: Global, weights: &[u64]) -> Result<Vec<u64>, AllocError>
     ensures order { IfOk result (λ order. IsOrder (length weights.now) order.items) }
     ensures falling { IfOk result (λ order. IsFalling weights.now order.items) }
@@ -30,7 +29,6 @@ pub(crate) fn by_weight(alloc: Global, weights: &[u64]) -> Result<Vec<u64>, Allo
     Ok(order)
 }
 
-// The answers without their numbers.
 fn drop_numbers<A: Drop>(alloc: Global, answers: Vec<(u64, A)>) -> Result<Vec<A>, AllocError>
     ensures { IfOk result (λ v. v.items ≡ Rattle.std.specs.Prelude.map (λ a. a.1) answers.items) }
 {
@@ -41,7 +39,6 @@ fn drop_numbers<A: Drop>(alloc: Global, answers: Vec<(u64, A)>) -> Result<Vec<A>
     Ok(plain)
 }
 
-/// The answers of so many lines, each of which has one, in the order of the lines.
 pub(crate) fn put_in_order<A: Drop>(
     alloc: Global,
     mut answers: Vec<(u64, A)>,

@@ -11,7 +11,6 @@ use std::alloc::{AllocError, Global};
 use std::thread;
 use std::thread::Threads;
 
-// Answers one line with the pass and what the worker holds.
 fn answer_line<F: Facts, J: CachingJob<F>>(
     cells: &SharedCells<F>,
     alloc: Global,
@@ -32,7 +31,7 @@ fn answer_line<F: Facts, J: CachingJob<F>>(
     Ok((answer, desk.into_pass()))
 }
 
-// Draws lines in this order and answers them until none is left, and holds one thing for all of them.
+// Draws lines and answers them until none is left, with one cache for all of them.
 fn answer_lines<F: Facts, J: CachingJob<F>, G: Gate>(
     cells: &SharedCells<F>,
     alloc: Global,
@@ -61,7 +60,6 @@ fn answer_lines<F: Facts, J: CachingJob<F>, G: Gate>(
     }
 }
 
-// Puts the second list of answers behind the first.
 fn append<A: Drop>(
     mut answers: Vec<(u64, A)>,
     mut more: Vec<(u64, A)>,
@@ -72,7 +70,7 @@ fn append<A: Drop>(
     Ok(answers)
 }
 
-/// As many workers as the pass has heirs, and one more. They go by std's join, and their passes meet.
+/// Runs one worker more than the pass has heirs, by std's `join`. Their passes meet at the end.
 pub(crate) fn answer_side_by_side<R: Threads + Sync, F: Facts + Sync, J: CachingJob<F>, G: Gate>(
     rt: &R,
     cells: &SharedCells<F>,

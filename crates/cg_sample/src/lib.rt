@@ -1,7 +1,7 @@
 //! The sample: a session that is made from a number.
 //!
-//! Line i asks one of six kinds of question, by what i leaves when divided by 6. The numbers in it are a, what i leaves
-//! by 5, and b, what i * i leaves by 7. With the default settings no line of it is refused.
+//! Line i asks one of six kinds of question, by i mod 6, with the numbers a = i mod 5 and b = i * i mod 7. With the
+//! default settings no line of it is refused.
 #![tactic(auto)]
 
 ghost use Rattle.std.specs.Prelude.{◌≡◌, ◌≤◌, ◌<◌, ◌+◌, ◌^◌, ◌++◌, ◌∷◌, [], IfOk, string_bytes, codes, length, take};
@@ -10,7 +10,6 @@ ghost use Rattle.cg_sample.specs.SampleText.{dots, line_of, grid_line, sample_te
 use std::alloc::{AllocError, Global};
 
 /// The sample of `n` lines, for n from 1 to 4,096, each with its LF: no more than 1,048,576 bytes.
-/// It fails only for want of memory.
 pub fn sample(alloc: Global, n: u64) -> Result<String, AllocError>
     requires some { 1 ≤ n }
     requires within { n ≤ 4096 }
@@ -24,7 +23,6 @@ pub fn sample(alloc: Global, n: u64) -> Result<String, AllocError>
     Ok(text)
 }
 
-/// Puts line `i` at the end.
 fn write_line(text: &mut String, i: u64) -> Result<(), AllocError>
     requires { i ≤ 4096 }
     ensures { IfOk result (λ _. string_bytes text.new ≡ string_bytes text.old ++ line_of i) }
@@ -44,14 +42,14 @@ fn write_line(text: &mut String, i: u64) -> Result<(), AllocError>
     }
 }
 
-/// Puts the line of a Domineering board of two such rows at the end.
+/// Appends a line with a Domineering board of two such rows.
 fn write_grid(text: &mut String, row: &str) -> Result<(), AllocError>
     ensures { IfOk result (λ _. string_bytes text.new ≡ string_bytes text.old ++ (grid_line row.now ++ 10 ∷ [])) }
 {
     writeln!(text, "value Domineering(\"{row}|{row}\")")
 }
 
-/// The first `c + 2` stones of a strip on which x and o take turns.
+/// `c + 2` stones of a strip, x and o by turns.
 fn strip(c: u64) -> &'static str
     requires { c < 3 }
     ensures { result.now ≡ take (c + 2) (codes "xoxo") }

@@ -1,4 +1,4 @@
-//! What a session comes to: its limits, the answers of its lines, and what is written of them.
+//! The answers of a whole session: its limits, its lines, its output.
 ghost use Rattle.std.specs.Prelude.{◌≡◌, ◌≤◌, ℕ, [], IfOk, IfSome, MatchOption, length, map};
 ghost use Rattle.cg_words.specs.Accepted.{InRange};
 ghost use Rattle.cg_session.specs.Kept.{KeepsAnswers, KeepsSession};
@@ -21,22 +21,20 @@ use cg_words::Settings;
 use std::alloc::{AllocError, Global};
 use std::thread::Threads;
 
-/// The answers to the answered lines of a session, in order, the table over which they were made, and a pass of it that
-/// knows the handle of every answer that has one.
+/// The answers to the answered lines of a session, in order, the table, and a pass of it that knows the handle of every
+/// answer that has one.
 pub type Kept = Evaluated<GameFacts<CgBoards>, Answered>;
 
-/// The most lines of a session that may get an answer.
 const MOST_ANSWERED: u64 = 4096;
 
-/// An output, and what is kept of the session: nothing where no line gets an answer.
+/// An output, and what is kept of the session: None if no line gets an answer.
 #[derive(Drop)]
 pub struct Answers {
     pub output: Output,
     pub kept: Option<Kept>,
 }
 
-/// Answers a whole session that has few enough bytes, with the output that is to be written, unless it has too many
-/// answered lines. It fails only for want of memory.
+/// Answers a session within the limit of bytes. None if it has too many answered lines.
 pub fn answer_session<R: Threads + Sync, G: Gate>(
     rt: &R,
     alloc: Global,
@@ -61,7 +59,6 @@ pub fn answer_session<R: Threads + Sync, G: Gate>(
     Ok(Some(answers))
 }
 
-/// Answers these lines, with what is to be written of them.
 fn answer_lines<R: Threads + Sync, G: Gate>(
     rt: &R,
     alloc: Global,
@@ -102,7 +99,7 @@ fn answer_lines<R: Threads + Sync, G: Gate>(
     })
 }
 
-/// What is to be written of the lines that have these answers: their output, or its summary where there is a sample.
+/// The output of these answers, or its summary if there is a sample.
 fn make_written(
     alloc: Global,
     sample: u64,

@@ -11,25 +11,20 @@ use cg_sample::sample;
 use cg_words::Settings;
 use std::alloc::{AllocError, Global};
 
-/// The most bytes that a session may have.
 const MOST_BYTES: usize = 1_048_576;
 
-/// How many bytes are asked for at once.
 const BUFFER_BYTES: usize = 32_768;
 
 /// Why there is no text of a session.
 #[derive(Clone, Copy, Debug, PartialEq, Eq)]
 pub enum TextFault {
-    /// The source failed.
     Read,
-    /// Memory was wanting.
     Memory,
-    /// The input has more than 1,048,576 bytes.
     TooLong,
 }
 
-/// The text of a session: the sample where one is asked for, and else the bytes of the source to its end. With a sample
-/// the source is left as it was.
+/// The text of the session: the sample if one is asked for, otherwise the bytes of the source to its end. With a sample
+/// nothing is read.
 pub fn session_text<S: Source>(
     alloc: Global,
     settings: Settings,
@@ -60,7 +55,7 @@ pub fn session_text<S: Source>(
     }
 }
 
-/// The bytes of the source to its end. Of an input that is too long, one byte more than the limit is taken.
+/// The bytes of the source to its end. It reads at most one byte past the limit.
 pub fn read_input<S: Source>(alloc: Global, source: &mut S) -> Result<Vec<u8>, TextFault>
     ensures whole { IfOk result (λ input. Consumes (S.left source.old) (S.left source.new) input.items) }
     ensures end { OnOk result (IsAtEnd (S.left source.new)) }

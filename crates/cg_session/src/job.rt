@@ -20,7 +20,7 @@ use cg_shared::Desk;
 use cg_syntax::{Asked, SessionLine};
 use std::alloc::{AllocError, Global};
 
-/// Lines, each on a share of so many cells, with so many positions at most in one list of items.
+/// Lines, with the cells that each may use and the most positions of a list.
 #[derive(Drop)]
 pub struct LineJob<'a> {
     pub lines: &'a [SessionLine],
@@ -62,8 +62,6 @@ impl<'a> CachingJob<GameFacts<CgBoards>> for LineJob<'a> {
     ghost holding = { λ cache f g grows h. cache_later (knowing f) (knowing g) cache grows h };
 }
 
-/// The answer to what a line asks, or its refusal, on a share of so much of the store's spare, with the help of what is
-/// held.
 fn answer_line<S: CellStore<GameFacts<CgBoards>>>(
     alloc: Global,
     store: &mut S,

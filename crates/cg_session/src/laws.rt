@@ -26,15 +26,15 @@ pub fn one_output()
     one_session();
 }
 
-/// A text of which a sink that tells its bytes took a front was not taken whole. So `run` ends with Write only where
-/// the whole text was not written.
+/// If a sink that reports its bytes took only a front of a text, it didn't take the whole text. So `run` ends with
+/// Write only if the whole text wasn't written.
 pub fn front_is_not_whole()
     ensures { (text : List ℕ) (before : List ℕ) (now : List ℕ)
         → AppendsFront text (Some before) (Some now) → ¬ Appends (Some before) (Some now) text }
 {}
 
-/// In a session of format 1 the reply to a line that gets one is the reply to that line alone, as `cg_eval::answer`
-/// makes it.
+/// In a session of format 1 the reply to an answered line is the reply to that line alone, as `cg_eval::answer` makes
+/// it.
 pub fn format_one()
     ensures { (share positions : ℕ) (before behind : Bindings) (line : List ℕ) (made : Resolved) (reply : Piece)
         → is_blank_line line ≡ false → ¬ IsComment line → IsLine formats.One before line made behind

@@ -1,8 +1,8 @@
 //! Sessions: a text of lines in, the lines of the answers out.
 //!
-//! The text is cut at each LF; a last piece without LF is a line if it isn't empty. All lines are numbered from 1. A
-//! line of spaces, tabs and CRs alone and a comment get no answer, and in format 2 the first line, `cg 2`, gets none.
-//! Every other line gets one line of output: its number in decimal, a colon, a space, the reply, LF. [`run`] takes the
+//! The text is cut at each LF; an unterminated last line counts unless it is empty. Lines are numbered from 1. Blank
+//! lines (spaces, tabs and CRs alone) and comments get no answer, nor does `cg 2`, the first line of format 2. Every
+//! other line gets one line of output: its number in decimal, a colon, a space, the reply, LF. [`run`] takes the
 //! settings from the words of the command line, reads a whole input from a [`cg_io::Source`], lets workers answer its
 //! lines over one shared table, and writes the whole output to a [`cg_io::Sink`]; [`Status`] says how that ended.
 #![tactic(auto)]

@@ -16,7 +16,7 @@ pub struct Output {
     pub refused: u64,
 }
 
-/// The output of the lines that have these answers, one each, in order. It fails only for want of memory.
+/// One line of output for each answer, in order.
 pub fn make_output(
     alloc: Global,
     lines: &[SessionLine],
@@ -36,7 +36,6 @@ pub fn make_output(
     Ok(out)
 }
 
-/// Puts the line of a reply at the end.
 fn push_reply(
     alloc: Global,
     out: &mut Output,
@@ -51,7 +50,7 @@ fn push_reply(
     Ok(())
 }
 
-/// Puts the number, a colon, a space, the reply and LF at the end.
+/// Appends `number: reply` and LF.
 fn push_line(alloc: Global, text: &mut Vec<u8>, number: u64, reply: &[u8]) -> Result<(), AllocError>
     ensures { OnOk result (text.new.items
         ≡ text.old.items ++ (decimal number ++ codes ": " ++ reply.now ++ (10 ∷ []))) }
@@ -64,8 +63,8 @@ fn push_line(alloc: Global, text: &mut Vec<u8>, number: u64, reply: &[u8]) -> Re
     Ok(())
 }
 
-/// The line that tells of the output of a sample how many lines the sample has, how many of them are refused, and how
-/// many bytes the output has.
+/// The summary of a sample's output: how many lines the sample has, how many of them are refused, and how many bytes
+/// the output has.
 pub fn make_summary(alloc: Global, lines: u64, out: &Output) -> Result<Output, AllocError>
     ensures { IfOk result (λ written. output_of written ≡ summary lines (output_of out.now)) }
 {

@@ -8,7 +8,6 @@ use cg_eval::Answered;
 use cg_syntax::Text;
 use std::alloc::{AllocError, Global};
 
-/// The refusal of this text.
 fn refused(text: String) -> Answered
     ensures text { shown result ≡ refusal (string_bytes text) }
     ensures handle { result.handle ≡ None }
@@ -20,7 +19,7 @@ fn refused(text: String) -> Answered
     }
 }
 
-/// The refusal of a line that leaves its grammar at the column.
+/// A syntax error at the column.
 pub fn refuse_syntax(alloc: Global, column: u64) -> Result<Answered, AllocError>
     ensures text { IfOk result (λ a. shown a ≡ syntax_at column) }
     ensures handle { IfOk result (λ a. a.handle ≡ None) }
@@ -29,7 +28,7 @@ pub fn refuse_syntax(alloc: Global, column: u64) -> Result<Answered, AllocError>
     Ok(refused(text))
 }
 
-/// The refusal of a line that uses a name at the column that no earlier line binds.
+/// A name at the column that no earlier line defines.
 pub fn refuse_name(alloc: Global, column: u64) -> Result<Answered, AllocError>
     ensures text { IfOk result (λ a. shown a ≡ unknown_at column) }
     ensures handle { IfOk result (λ a. a.handle ≡ None) }
@@ -38,7 +37,7 @@ pub fn refuse_name(alloc: Global, column: u64) -> Result<Answered, AllocError>
     Ok(refused(text))
 }
 
-/// The refusal of a line that uses a name and whose expanded expressions are too large.
+/// An expression that is too large once names are expanded.
 pub fn refuse_parts(alloc: Global) -> Result<Answered, AllocError>
     ensures text { IfOk result (λ a. shown a ≡ too_large) }
     ensures handle { IfOk result (λ a. a.handle ≡ None) }

@@ -1,4 +1,3 @@
-//! The top call.
 ghost use Rattle.std.specs.Prelude.{◌≡◌, ◌+◌, ◌<◌, ◌≤◌, ◌^◌, ℕ, List, [], IfSome, MatchOption, None};
 ghost use Rattle.cg_io.specs.Faults.{Rose};
 ghost use Rattle.cg_words.specs.Accepted.{IsAccepted, settings_of};
@@ -20,19 +19,18 @@ use cg_words::{Settings, SettingsFault};
 use std::alloc::{AllocError, Global};
 use std::thread::Threads;
 
-/// What is written where the words are not accepted.
+/// Written to standard output if the words of the command line are refused.
 const USAGE_LINE: &[u8] = b"usage: cg [--workers W] [--cells N] [--positions P] [--sample n]\n";
 
 /// Reads a whole session, answers its lines by workers over one shared table, and writes the whole output.
 ///
-/// The words are those after the program's name; [`Settings::read`] says which are accepted, and for others the usage
-/// line is written and nothing is read. The text of the session is its input, or the sample where one is asked for;
-/// then the source is left as it was, and what is written is the one line `lines n refused r bytes b`. A session may
-/// have 1,048,576 bytes and 4,096 answered lines, and at most as many of them as the table has cells. Reading stops at
-/// the end, at a fault, or once one byte more was taken. The first byte is written when all answers and the whole
-/// output stand. After the last byte was written, the answers, their table, and a pass of it are put into `kept`, where
-/// the session has an answered line. Whatever the source is, what is kept are then the answers to the lines of one text
-/// within the limits, and the output is that text's.
+/// The words are those after the program's name; for words that [`Settings::read`] refuses, the usage line is written
+/// and nothing is read. The text of the session is its input, or the sample if one is asked for; then nothing is read,
+/// and what is written is the one line `lines n refused r bytes b`. A session may have 1,048,576 bytes and 4,096
+/// answered lines, and no more answered lines than the table has cells. Reading stops at the end, at a fault, or one
+/// byte past the limit. Writing begins once the whole output exists. After the last byte, the answers, their table and
+/// a pass of it go into `kept`, if there are answered lines. This holds for every source: `kept` has the answers to the
+/// lines of one text within the limits, and the output is that text's.
 pub fn run<R: Threads + Sync, S: Source, K: Sink, G: Gate>(
     rt: &R,
     alloc: Global,
@@ -44,26 +42,26 @@ pub fn run<R: Threads + Sync, S: Source, K: Sink, G: Gate>(
 ) -> Status
     requires { kept.old ≡ None }
 
-    // What was read and written, by the status, where the source and the sink tell their bytes.
+    // What was read and written, by the status, if the source and the sink report their bytes.
     ensures written { Writes result (texts words.now)
         (S.left source.old) (S.left source.new) (K.taken sink.old) (K.taken sink.new) }
     ensures taken { TakesAtMost (2 ^ 20 + 1) (S.left source.old) (S.left source.new) }
 
-    // Where the words are not accepted, and where there is a sample, the source is left as it was.
+    // Nothing is read if the words are refused, or if there is a sample.
     ensures unread { ¬ IsAccepted (texts words.now) → source.new ≡ source.old }
     ensures unread_for_sample { 0 < (settings_of (texts words.now)).sample → source.new ≡ source.old }
 
-    // The next three follow from `written`, `read` and `write`; they say when each status comes. Words that are not
-    // accepted give Usage where the sink's count did not rise, unless memory was wanting.
+    // The next three follow from `written`, `read` and `write`; they say when each status comes. Refused words end with
+    // Usage, unless the sink failed or memory ran out.
     ensures usage { ¬ IsAccepted (texts words.now) → ¬ Rose (K.faults sink.old) (K.faults sink.new)
         → UsageOrLacksMemory result }
 
-    // A session past a limit is TooLong, unless reading failed or memory was wanting.
+    // A session past a limit ends with TooLong, unless reading failed or memory ran out.
     ensures past_limits { IsAccepted (texts words.now)
         → IfSome (session_text (settings_of (texts words.now)) (S.left source.old)) (λ text.
         ¬ IsWithinLimits (settings_of (texts words.now)) text → EndsBeforeAnswers result) }
 
-    // A session within the limits is answered whole where neither count rose, unless memory was wanting.
+    // A session within the limits is answered whole, unless the source or the sink failed or memory ran out.
     ensures complete { IsAccepted (texts words.now)
         → IfSome (session_text (settings_of (texts words.now)) (S.left source.old)) (λ text.
         IsWithinLimits (settings_of (texts words.now)) text
@@ -71,20 +69,20 @@ pub fn run<R: Threads + Sync, S: Source, K: Sink, G: Gate>(
         → ¬ Rose (K.faults sink.old) (K.faults sink.new)
         → AnswersOrLacksMemory result) }
 
-    // Read and Write come only where the count of faults rose. No count falls.
+    // Read and Write say that the count of faults rose. No count falls.
     ensures read { result ≡ Status.Read → Rose (S.faults source.old) (S.faults source.new) }
     ensures write { result ≡ Status.Write → Rose (K.faults sink.old) (K.faults sink.new) }
     ensures source_never_falls { S.faults source.old ≤ S.faults source.new }
     ensures sink_never_falls { K.faults sink.old ≤ K.faults sink.new }
 
-    // The answers and their table are kept exactly where the whole was written and some line is answered.
+    // The answers and their table are kept if the whole output was written and some line is answered, and only then.
     ensures kept { IsWhole result
         → IfSome (session_text (settings_of (texts words.now)) (S.left source.old)) (λ text.
         MatchOption kept.new (answered_lines text ≡ []) (λ k.
         KeepsSession (settings_of (texts words.now)) text k.answers.items k.cells k.pass)) }
     ensures not_kept { ¬ IsWhole result → kept.new ≡ None }
 
-    // So it is where the source and the sink tell nothing, too: some text is the session that is answered and kept.
+    // The same for a source and a sink that report nothing: some text is the session that is answered and kept.
     ensures session { AtWhole result ((text : List ℕ)
         × IsSessionOf result (settings_of (texts words.now)) (S.left source.old) (K.taken sink.old) (K.taken sink.new)
         (K.counted sink.old) (K.counted sink.new) text

@@ -1,4 +1,3 @@
-//! How a session ends.
 ghost use Rattle.std.specs.Prelude.{◌≡◌};
 ghost use Rattle.cg_session.specs.StatusCode.{code_of};
 
@@ -9,22 +8,21 @@ pub enum Status {
     Done,
     /// The whole output was written, or the summary of a sample, and at least one line is refused.
     Refused,
-    /// The words are not accepted. The usage line was written, and nothing was read.
+    /// The words are refused. The usage line was written, and nothing was read.
     Usage,
     /// The source failed, and there is no sample. Nothing was written.
     Read,
-    /// The sink failed. A front of what was to be written was, which is the usage line where the words are not
-    /// accepted.
+    /// The sink failed. A front of the output, or of the usage line if the words are refused, was written.
     Write,
-    /// Memory was wanting. Nothing was written.
+    /// Memory ran out. Nothing was written.
     Memory,
-    /// The session has more than 1,048,576 bytes, or more than 4,096 answered lines, or more of them than the table has
+    /// The session has more than 1,048,576 bytes, more than 4,096 answered lines, or more of them than the table has
     /// cells. Nothing was written.
     TooLong,
 }
 
 impl Status {
-    /// The number that the program ends with.
+    /// The exit status.
     pub fn code(self) -> u8
         ensures { result ≡ code_of self }
     {

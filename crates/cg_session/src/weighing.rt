@@ -1,16 +1,16 @@
-//! How much the answers to lines may cost, so that several workers begin with the most expensive ones.
+//! Estimates of the cost of each line, so that several workers begin with the most expensive ones.
 ghost use Rattle.std.specs.Prelude.{◌≡◌, IfOk, length};
 
 use cg_syntax::{Asked, Expr, Query, SessionLine};
 use std::alloc::{AllocError, Global};
 
-/// What a board weighs besides its bytes: more than all that a line without one does.
+/// The weight of a board besides its bytes: more than a line without boards can have.
 const BOARD: u64 = 1 << 20;
 
-/// The most that ups or a nimber weigh.
+/// The greatest weight of ups, of a nimber or of a heap.
 const MOST_COUNTED: u128 = 1024;
 
-/// The weight of each line, for so many workers. One worker takes all lines as they stand.
+/// The weight of each line. For one worker all are 0, so lines keep their order.
 pub fn weights_of(
     alloc: Global,
     lines: &[SessionLine],
@@ -29,7 +29,6 @@ pub fn weights_of(
     Ok(weights)
 }
 
-/// The weight of what a line asks.
 fn line_weight(asked: &Asked) -> u64 {
     match asked {
         Asked::Query(Query::Value(expr)) => weight(expr),
@@ -51,7 +50,6 @@ fn line_weight(asked: &Asked) -> u64 {
     }
 }
 
-/// The weight of an expression: that of its terms.
 fn weight(expr: &Expr) -> u64 {
     let Expr::Sum(terms) = expr else {
         return term_weight(expr);
@@ -63,7 +61,6 @@ fn weight(expr: &Expr) -> u64 {
     all
 }
 
-/// The weight of a term.
 fn term_weight(expr: &Expr) -> u64 {
     match expr {
         Expr::Game { rules, board, .. } => BOARD

@@ -7,7 +7,7 @@ ghost use Rattle.cg_session.specs.Written.{AppendsFront};
 
 use cg_io::{Failed, Sink};
 
-/// Hands the sink the whole rest of the text until all of it is taken. It takes no memory.
+/// Writes the rest of the text until all of it is taken. It allocates nothing.
 pub fn write_all<K: Sink>(sink: &mut K, text: &[u8]) -> Result<(), Failed>
     ensures whole { OnOk result (Appends (K.taken sink.old) (K.taken sink.new) text.now) }
     ensures counted { OnOk result (CountsMore (length text.now) (K.counted sink.old) (K.counted sink.new)) }

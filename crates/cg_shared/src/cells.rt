@@ -1,4 +1,3 @@
-// The calls on cells.
 ghost use Rattle.std.specs.Prelude.{◌≡◌, ℕ, suc, ◌≤◌, [], ◌∷◌, Some, IfSome, IfNone, IsSome};
 ghost use Rattle.cg_cells.specs.Layout.{id_field};
 ghost use Rattle.cg_cells.specs.Parts.{names_of};
@@ -15,14 +14,13 @@ use crate::{search, steps};
 use cg_cells::{Facts, Id, Key};
 
 impl<F: Facts> SharedCells<F> {
-    // The number of cells.
     pub(crate) fn size(&self) -> u64
         ensures { result ≡ cells_of self.now.sizes }
     {
         self.size.number()
     }
 
-    /// The key of a known id, as a store of cells tells it. It is one load.
+    /// As in [`CellStore`](cg_cells::CellStore): one load.
     pub fn look(&self, pass: &mut Pass<F>, id: Id) -> Key
         requires own { IsPassOf self.now pass.old }
         requires known { Known (pass_state pass.old) id }
@@ -41,9 +39,9 @@ impl<F: Facts> SharedCells<F> {
         key
     }
 
-    /// The id of the cell with this key, as a store of cells claims it. Where an id is known
-    /// already to be what the key spells, as after an earlier claim of the key, it is this id. Each
-    /// turn of the search is one load, and one exchange more where the load read an empty word.
+    /// As in [`CellStore`](cg_cells::CellStore). If an id is known already to be what the key spells, as after an
+    /// earlier claim, it is this id. Each turn of the search is one load, and one exchange more if the load read an
+    /// empty word.
     pub fn claim(&self, pass: &mut Pass<F>, key: Key) -> Id
         requires own { IsPassOf self.now pass.old }
         requires spare { 1 ≤ pass.old.sees.spare }
@@ -68,7 +66,7 @@ impl<F: Facts> SharedCells<F> {
         Id::new(cell as u32)
     }
 
-    /// Notes a value on a cell, as a store of cells does. It is one exchange.
+    /// As in [`CellStore`](cg_cells::CellStore): one exchange.
     pub fn note(&self, pass: &mut Pass<F>, id: Id, value: Id)
         requires own { IsPassOf self.now pass.old }
         requires id { Known (pass_state pass.old) id }
@@ -90,9 +88,9 @@ impl<F: Facts> SharedCells<F> {
         );
     }
 
-    /// The value that is noted on a cell, as a store of cells tells it. It is one load. None comes
-    /// only where this load read an empty word, and the id is then one more of the pass's empties.
-    /// With a value the pass has noted the id, and knows the value as the thing of this note.
+    /// As in [`CellStore`](cg_cells::CellStore): one load. None only if this load read an empty word; the id is then
+    /// one more of the pass's empties. With a value the pass has noted the id, and knows the value as the thing of this
+    /// note.
     pub fn noted(&self, pass: &mut Pass<F>, id: Id) -> Option<Id>
         requires own { IsPassOf self.now pass.old }
         requires known { Known (pass_state pass.old) id }
@@ -125,8 +123,8 @@ impl<F: Facts> SharedCells<F> {
         Some(Id::new((word - 1) as u32))
     }
 
-    /// Loads the word of the cell where the search for this key begins, so that it is near when the
-    /// key is claimed, and answers the id of that cell. Nothing is learnt.
+    /// Loads the word of the cell where the search for this key begins, so that it is in the cache when the key is
+    /// claimed, and answers the id of that cell.
     pub fn prefetch_claim(&self, pass: &mut Pass<F>, key: Key) -> Id
         requires own { IsPassOf self.now pass.old }
         ensures own { IsPassOf self.now pass.new }
@@ -139,8 +137,7 @@ impl<F: Facts> SharedCells<F> {
         Id::new(home as u32)
     }
 
-    /// Loads the value word of this id, if it is one of the table's, so that it is near when it is
-    /// asked for. Nothing is learnt.
+    /// Loads the value word of this id, if it is one of the table's, so that it is in the cache when it is asked for.
     pub fn prefetch_note(&self, pass: &mut Pass<F>, id: Id)
         requires own { IsPassOf self.now pass.old }
         ensures own { IsPassOf self.now pass.new }

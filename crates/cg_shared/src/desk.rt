@@ -13,7 +13,7 @@ use crate::table::SharedCells;
 use cg_cells::{CellStore, Facts, Id, Key};
 use std::marker::Model;
 
-/// What no call on a desk's cells changes: its table, and its pass's tickets, heirs and meets. No value of it is made.
+/// What no call on a desk's cells changes: its table, and its pass's tickets, heirs and meets. In contracts only.
 pub struct DeskRest {
     ghost is: { RestOf } by { rest_code },
 }
@@ -46,7 +46,6 @@ impl<'a, F: Facts> Model for Desk<'a, F> {
 }
 
 impl<'a, F: Facts> Desk<'a, F> {
-    /// The table with this pass of it.
     pub fn new(cells: &'a SharedCells<F>, pass: Pass<F>) -> Desk<'a, F>
         requires { IsPassOf cells.now pass }
         ensures { result ≡ pass }
@@ -54,7 +53,6 @@ impl<'a, F: Facts> Desk<'a, F> {
         Desk { cells, pass }
     }
 
-    /// The pass.
     pub fn into_pass(self) -> Pass<F>
         ensures { result ≡ self.entry }
     {
@@ -80,8 +78,7 @@ impl<'a, F: Facts> CellStore<F> for Desk<'a, F> {
         self.cells.note(&mut self.pass, id, value);
     }
 
-    /// The value that is noted on the cell. None comes only where this call read an empty word, and
-    /// the id is then one more of the pass's empties.
+    /// None only if this call read an empty word; the id is then one more of the pass's empties.
     fn noted(&mut self, id: Id) -> Option<Id>
         requires { Known (pass_state self.old) id }
         ensures value { IfSome result (λ value. Known (pass_state self.new) value

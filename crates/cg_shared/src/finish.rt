@@ -13,7 +13,7 @@ use atomic_table::Closed;
 use cg_cells::{Facts, PlainStore};
 use std::alloc::{AllocError, Global};
 
-// So many words of a table that was closed, from one on.
+// The `count` words of a closed table from `first` on.
 fn words_from(
     alloc: Global,
     closed: &Closed<(), Global>,
@@ -35,10 +35,9 @@ fn words_from(
 }
 
 impl<F: Facts> SharedCells<F> {
-    /// The cells as a store in plain memory, which knows and has noted what the pass did, and has
-    /// its claims to spare. The keys stay in their cells. The words and the pass are those of a
-    /// table to which some list of steps of passes leads from the start. After want of memory the
-    /// table is gone.
+    /// The cells as a store in plain memory, which knows what the pass did, has noted what it had, and has its claims
+    /// to spare. The keys stay in their cells. Some list of steps of passes leads from the start to these words and
+    /// this pass. If memory runs out, the table is gone.
     pub fn finish(self, alloc: Global, pass: Pass<F>) -> Result<PlainStore<F>, AllocError>
         requires own { IsPassOf self pass }
         ensures known { IfOk result

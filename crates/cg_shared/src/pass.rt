@@ -12,7 +12,7 @@ use atomic_table::Seat;
 use cg_cells::{Facts, Id};
 use std::marker::Model;
 
-/// What one caller knows of a table and owns of it. Contracts see which table it is one of, and its view.
+/// What one caller knows of a table and owns of it. Contracts see its table and its view.
 #[derive(Drop)]
 pub struct Pass<F: Facts> {
     pub(crate) seat: Seat<(), View<F::Thing>>,
@@ -32,7 +32,6 @@ impl<F: Facts> Model for Pass<F> {
 }
 
 impl<F: Facts> Pass<F> {
-    /// How many claims it has left.
     pub fn spare(&self) -> u64
         ensures value { result ≡ self.now.sees.spare }
         ensures few { result ≤ 2 ^ 26 }
@@ -40,14 +39,13 @@ impl<F: Facts> Pass<F> {
         self.spare
     }
 
-    /// How many further passes may come of it.
+    /// How many further passes may split off.
     pub fn heirs(&self) -> u64
         ensures { result ≡ self.now.sees.heirs }
     {
         self.heirs
     }
 
-    /// Whether two known ids are known to be one thing, as a store of cells tells it.
     pub fn same(&self, a: Id, b: Id) -> bool
         requires a { Known (pass_state self.now) a }
         requires b { Known (pass_state self.now) b }
@@ -57,7 +55,7 @@ impl<F: Facts> Pass<F> {
         ensures real { IsReal F.meaning (thing_at (pass_state self.now) a)
             × IsReal F.meaning (thing_at (pass_state self.now) b) }
     {
-        // Read for the proof alone: what holds of a pass is known where a field is read.
+        // For the proof alone: where a field is read, the prover knows the pass's invariant.
         let _seat = &self.seat;
         a.number() == b.number()
     }
@@ -66,12 +64,12 @@ impl<F: Facts> Pass<F> {
     pub fn apart(&self)
         ensures { IsInjective (thing_at (pass_state self.now)) }
     {
-        // Read for the proof alone: what holds of a pass is known where a field is read.
+        // For the proof, as in `same`.
         let _seat = &self.seat;
     }
 
-    /// Fact: no line is twice among the tickets, and where none is left and no other pass is about,
-    /// all are there. The call does nothing.
+    /// Fact: no line is twice among the tickets, and if none is left and there is no other pass, all are there. The
+    /// call does nothing.
     pub fn each_ticket_once(&self)
         ensures once { (n : ℕ)
             → times n self.now.sees.tickets
@@ -80,17 +78,17 @@ impl<F: Facts> Pass<F> {
         ensures all { self.now.sees.over ≡ true
             → passes_of self.now.sees ≡ self.now.sees.sizes.passes → HasAllTickets self.now.sees }
     {
-        // Read for the proof alone: what holds of a pass is known where a field is read.
+        // For the proof, as in `same`.
         let _seat = &self.seat;
     }
 
-    /// Fact: some list of steps that closes nothing leads from the start to a table of which a live
-    /// pass has this view. What the view has as made are that pass's steps in the list, as the law
-    /// `made` of cg_cells says. The call does nothing.
+    /// Fact: some list of steps that closes nothing leads from the start to a table in which a live pass has this view.
+    /// The steps in the view are that pass's steps in the list, as the law `made` of cg_cells says. The call does
+    /// nothing.
     pub fn reached(&self)
         ensures { IsReached F.meaning self.now.sees }
     {
-        // Read for the proof alone: what holds of a pass is known where a field is read.
+        // For the proof, as in `same`.
         let _seat = &self.seat;
     }
 }

@@ -20,10 +20,10 @@ use std::marker::Brand;
 pub struct Ticket(pub u64);
 
 impl<F: Facts> SharedCells<F> {
-    /// A line that no pass has drawn yet, and its share of claims. None comes exactly where none is
-    /// left: where the counter was at `lines` at this step, or at an earlier draw of this pass or
-    /// of one that was met into it. If none is left and no other pass is about, this one has the
-    /// tickets of all lines, each once. It is one addition, or none after an earlier draw that came to None.
+    /// A line that no pass has drawn yet, with its share of claims. None only if no line is left: the counter was at
+    /// `lines` at this step, or at an earlier draw of this pass or of one that was met into it. If no line is left and
+    /// there is no other pass, this one has the tickets of all lines, each once. It is one addition, or none after an
+    /// earlier None.
     pub fn draw(&self, pass: &mut Pass<F>) -> Option<Ticket>
         requires own { IsPassOf self.now pass.old }
         ensures own { IsPassOf self.now pass.new }
@@ -71,7 +71,7 @@ impl<F: Facts> SharedCells<F> {
         }
     }
 
-    /// A new pass, which knows and has noted what this one does, owns nothing, and takes so many of its heirs.
+    /// A new pass, which knows and has noted what this one does, owns nothing, and takes `heirs` of its heirs.
     pub fn split(&self, pass: &mut Pass<F>, heirs: u64) -> Pass<F>
         requires own { IsPassOf self.now pass.old }
         requires few { heirs < pass.old.sees.heirs }
@@ -82,7 +82,7 @@ impl<F: Facts> SharedCells<F> {
         self.split_by::<Brand>(pass, heirs)
     }
 
-    /// The other pass ends, and this one knows, has noted and owns what either did.
+    /// Ends the other pass: this one then knows, has noted and owns what either did.
     pub fn meet(&self, pass: &mut Pass<F>, other: Pass<F>)
         requires own { IsPassOf self.now pass.old × IsPassOf self.now other }
         ensures own { IsPassOf self.now pass.new }

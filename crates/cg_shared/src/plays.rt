@@ -10,7 +10,7 @@ use atomic_table::{Join, Play, Split, TableRule};
 use cg_cells::Facts;
 use std::marker::{Brand, PhantomData};
 
-/// The rule of the words and of the views of all passes: some list of steps leads to them from the start.
+/// The rule of a table: some list of steps leads from the start to its words and to the views of all its passes.
 pub struct Rule<F> {
     of: PhantomData<F>,
 }
@@ -53,7 +53,7 @@ impl<F: Facts> Play<(), View<F::Thing>> for Reads<F> {
     ghost then = { Read F.meaning };
 }
 
-// The key that is searched for. A probe reads it off its type, since a load gives its play no key.
+// The key that a probe searches for, as a type: a load can't pass a key to its play.
 pub(crate) trait Sought {
     ghost key: { ℕ };
 }
@@ -86,7 +86,7 @@ impl<F: Facts> Play<(), View<F::Thing>> for Notes<F> {
     ghost then = { Noted F.meaning };
 }
 
-// How many heirs a new pass is given. A split reads it off its type.
+// How many heirs a new pass gets, as a type.
 pub(crate) trait Heirs {
     ghost heirs: { ℕ };
 }

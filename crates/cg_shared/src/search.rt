@@ -17,7 +17,7 @@ use atomic_table::{Seat, Shared};
 use cg_cells::Facts;
 use std::marker::Brand;
 
-// The second step of a turn, where the first found no key: the search ends here, unless another key came between.
+// Claims an empty cell. Whether the search ends here: not if another key came first.
 fn takes<F: Facts>(
     shared: &Shared<(), View<F::Thing>, Plan, Rule<F>>,
     seat: &mut Seat<(), View<F::Thing>>,
@@ -37,8 +37,7 @@ fn takes<F: Facts>(
     found == 0 || found == key
 }
 
-// One turn of the search, at the cell that it has come to: a probe, and a claim where the probe
-// finds no key. Whether the search ends here.
+// One turn of the search: a probe, and a claim if the cell is empty. Whether the search ends here.
 fn ends<F: Facts>(
     shared: &Shared<(), View<F::Thing>, Plan, Rule<F>>,
     seat: &mut Seat<(), View<F::Thing>>,
@@ -61,10 +60,9 @@ fn ends<F: Facts>(
     found == key
 }
 
-// A search over the cells from one up to an end, of which the first comes so many steps after the
-// key's home. It ends at the key's cell, or at an empty one, which becomes it, and at none where
-// each of them has another key. Nothing goes round in it, so that a turn is little more than the
-// load.
+// Searches the cells from `first` to `end`, where `first` comes `steps` cells after the key's home. It ends at the
+// key's cell, or at an empty one, which it claims; None if all of them have other keys. The loop doesn't wrap around,
+// so a turn costs little more than its load.
 fn claim_among<F: Facts>(
     shared: &Shared<(), View<F::Thing>, Plan, Rule<F>>,
     seat: &mut Seat<(), View<F::Thing>>,
@@ -135,8 +133,8 @@ fn search<F: Facts>(
     }
 }
 
-/// Claims a key: from its home on, until its cell is found or an empty one becomes it. A turn that
-/// finds another key moves on, so each cell has one turn at most.
+/// Searches for the key from its home on, and claims the first empty cell if no cell has the key. Each cell has one
+/// turn at most.
 pub(crate) fn claim<F: Facts>(
     shared: &Shared<(), View<F::Thing>, Plan, Rule<F>>,
     seat: &mut Seat<(), View<F::Thing>>,

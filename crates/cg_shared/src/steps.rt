@@ -171,7 +171,7 @@ pub(crate) fn split<F: Facts, H: Heirs>(
     shared.split_seat::<Cuts<H>>(seat)
 }
 
-// A load of a word, of which nothing is learnt but what the rule tells of the view.
+// A load that tells only what the rule says of the view.
 pub(crate) fn check<F: Facts>(
     shared: &Shared<(), View<F::Thing>, Plan, Rule<F>>,
     seat: &mut Seat<(), View<F::Thing>>,

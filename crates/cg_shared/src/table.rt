@@ -1,4 +1,3 @@
-// A shared table, and its start.
 ghost use Rattle.std.specs.Prelude.{◌≡◌, ◌≢◌, ◌+◌, ◌≤◌, ◌↔◌, [], IfOk, Err, MatchOption};
 ghost use Rattle.cg_cells.specs.Views.{first_view, cells_of};
 ghost use Rattle.cg_cells.specs.Table.{IsAllowed};
@@ -18,7 +17,7 @@ const MOST_CELLS: u64 = 1 << 26;
 
 const MOST_PASSES: u64 = 1 << 16;
 
-/// A table of cells that threads share. Contracts see which table it is, and its sizes.
+/// A table of cells that threads share. Contracts see its identity and its sizes.
 #[derive(Drop)]
 pub struct SharedCells<F: Facts> {
     pub(crate) table: Table<(), View<F::Thing>, Plan, Rule<F>, Global>,
@@ -43,15 +42,13 @@ impl<F: Facts> Model for SharedCells<F> {
 /// Why no table was made.
 #[derive(Clone, Copy, Debug, PartialEq, Eq, Error)]
 pub enum StartFault {
-    /// The number of cells is 0 or above 2^26, or that of passes is 0 or above 65,536.
     #[error("a table has from 1 to 67108864 cells and from 1 to 65536 passes")]
     Size,
-    /// There was no memory for the words.
     #[error("out of memory")]
     Memory,
 }
 
-// How many cells there are to be, if a table of these sizes may be made.
+// The number of cells, if the sizes are allowed.
 fn allowed(plan: Plan) -> Option<u64>
     ensures { MatchOption result (¬ IsAllowed (sizes_of plan))
         (λ size. (size ≡ cells_of (sizes_of plan)) × IsAllowed (sizes_of plan)) }
@@ -63,8 +60,8 @@ fn allowed(plan: Plan) -> Option<u64>
 }
 
 impl<F: Facts> SharedCells<F> {
-    /// A table of `lines * share` empty cells, and its first pass, of which up to `passes - 1`
-    /// others may come. It takes all its memory here, 16 bytes a cell.
+    /// A table of `lines * share` empty cells, and its first pass, from which up to `passes - 1` others may come. It
+    /// allocates 16 bytes a cell here and nothing later.
     pub fn start(
         alloc: Global,
         lines: u64,

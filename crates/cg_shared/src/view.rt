@@ -1,4 +1,4 @@
-// What one pass knows and owns, in proofs alone: no value of `View` is made.
+// What one pass knows and owns, in contracts and proofs only.
 ghost use base.Fml.{ftrue};
 ghost use Rattle.cg_cells.specs.Views.{ViewOf};
 ghost use Rattle.cg_shared.specs.Passes.{view_code};
@@ -13,7 +13,6 @@ pub struct Plan {
     pub passes: u64,
 }
 
-/// The view of a pass.
 pub struct View<X> {
     of: PhantomData<X>,
     ghost sees: { ViewOf X } by { view_code X.code },

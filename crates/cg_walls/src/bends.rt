@@ -9,17 +9,13 @@ use crate::place::Place;
 use crate::{END, Rise};
 use std::alloc::{AllocError, Global};
 
-/// A point of a wall.
 #[derive(Clone, Copy, Debug)]
 pub struct Point {
-    /// The value.
     pub value: i128,
-    /// The time.
     pub at: u128,
 }
 
 impl Point {
-    /// The point with this value at this time.
     pub fn of(value: i128, at: u128) -> Point
         ensures value { result.value ≡ value }
         ensures at { result.at ≡ at }
@@ -28,8 +24,7 @@ impl Point {
     }
 }
 
-/// The point at 0, those before the end at which the wall turns, and the point at the end, if that is above 0. The only
-/// error is want of memory.
+/// The points at time 0, at each bend before the end, and at the end if that is above 0.
 pub fn points(alloc: Global, rise: &Rise, end: u128) -> Result<Vec<Point>, AllocError>
     requires wall { IsWall rise.now }
     requires end { end < END }

@@ -1,5 +1,5 @@
-//! Walls as functions of a time 0, 1, 2, .. that in each unit rise by 1 or stay where they are: the greater of two,
-//! where two meet, and the points at which one bends; and the line through points.
+//! Walls in whole units: functions of t = 0, 1, 2, .. that in each unit rise by 1 or stay. Here are the greater of two
+//! walls, the time at which two scaffolds meet, the bends of a wall, and the line through points.
 #![tactic(auto)]
 
 mod bends;
@@ -18,10 +18,10 @@ pub use turning::turned;
 pub use upper::higher;
 pub use worth::value;
 
-/// No wall is above this, nor below its negative: a number below 2^64 in size is less than this in units of 1/2^60, and
-/// the sum of two such values is still a word.
+/// The greatest size of a wall's value, in units of 1/2^60: more than any number below 2^64, and the sum of two such
+/// values fits an i128.
 pub const BOUND: i128 = 1 << 124;
 
-/// All turns come before this time: two scaffolds over walls within the bound have met once t is the bound, which is
-/// half of this, and twice this is still a word.
+/// All turns come before this time. Scaffolds over walls within [`BOUND`] have met by t = `BOUND`, half of this, and
+/// twice this fits a u128.
 pub const END: u128 = 1 << 125;

@@ -7,7 +7,7 @@ ghost use Rattle.cg_walls.specs.Rises.{IsWall, gap};
 use crate::place::Place;
 use crate::{END, Rise};
 
-// How far the two together are above twice the time.
+// The sum of both values, less twice the time.
 fn gap_at(now: u128, p: &Place, q: &Place) -> u128
     requires now { now ≤ END }
     requires p { Within p.now }
@@ -30,7 +30,7 @@ fn falls(p: &Place, q: &Place) -> u128
     }
 }
 
-// The time at which a gap that falls so much in a unit is closed, if that is a whole time.
+// The time at which the gap reaches 0, if that is a whole number.
 fn closes(now: u128, gap: u128, falls: u128) -> Option<u128>
     requires now { now ≤ END }
     requires gap { gap ≤ END }
@@ -48,8 +48,8 @@ fn closes(now: u128, gap: u128, falls: u128) -> Option<u128>
     }
 }
 
-/// The time at which the two, both less t, come to be together 0: the scaffolds over them meet there. None comes
-/// exactly where they pass each other between two whole times.
+/// The time t at which the two walls, each less t, add up to 0: the scaffolds over them meet there. None if they pass
+/// each other between two whole times.
 pub fn meeting(a: &Rise, b: &Rise) -> Option<u128>
     requires a { IsWall a.now }
     requires b { IsWall b.now }

@@ -8,15 +8,14 @@ use crate::{END, Rise};
 /// A place on a rise at some time.
 #[derive(Clone, Copy, Debug)]
 pub(crate) struct Place {
-    /// The value there.
     pub(crate) value: i128,
-    /// Whether it rises from there on.
+    /// Whether it rises from here on.
     pub(crate) up: bool,
-    /// How many turns lie behind.
+    /// How many turns it has passed.
     pub(crate) passed: usize,
 }
 
-// The value that is so many units further on.
+// The value `by` units later.
 fn climbed(p: &Place, by: u128) -> i128
     requires within { Within p.now }
     requires by { by ≤ END }
@@ -30,7 +29,6 @@ fn climbed(p: &Place, by: u128) -> i128
 }
 
 impl Place {
-    // The place with this value.
     fn of(value: i128, up: bool, passed: usize) -> Place
         ensures value { result.value ≡ value }
         ensures up { result.up ≡ up }
@@ -39,7 +37,6 @@ impl Place {
         Place { value, up, passed }
     }
 
-    /// The place at the time 0.
     pub(crate) fn start(rise: &Rise) -> Place
         requires { IsWall rise.now }
         ensures { At rise.now 0 result }
@@ -47,7 +44,7 @@ impl Place {
         Place::of(rise.start, rise.first, 0)
     }
 
-    /// When the next turn comes, or the end of all times.
+    /// The time of the next turn, or the end of all times.
     pub(crate) fn next(&self, rise: &Rise) -> u128
         ensures { result ≡ next_of rise.now self.now }
     {
@@ -58,7 +55,7 @@ impl Place {
         }
     }
 
-    /// The place at the later time `to`, up to which there is no turn.
+    /// The place at `to`, if no turn comes before.
     pub(crate) fn moved(&self, rise: &Rise, now: u128, to: u128) -> Place
         requires wall { IsWall rise.now }
         requires at { At rise.now now self.now }

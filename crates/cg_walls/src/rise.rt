@@ -1,4 +1,3 @@
-//! Rises.
 ghost use Rattle.std.specs.Prelude.{◌≡◌, ℕ, ◌≤ℤ◌, neg_ℤ, IfOk};
 ghost use Rattle.cg_walls.specs.declared.TheConstants.{BOUND};
 ghost use Rattle.cg_walls.specs.Rises.{IsWall, value_at};
@@ -17,7 +16,6 @@ pub struct Rise {
 }
 
 impl Rise {
-    /// What starts at this value, rises at first or not, and turns at these times.
     pub(crate) fn of(start: i128, first: bool, turns: Vec<u128>) -> Rise
         ensures start { result.start ≡ start }
         ensures first { result.first ≡ first }
@@ -30,7 +28,7 @@ impl Rise {
         }
     }
 
-    /// What stays at a value.
+    /// A constant.
     pub fn level(alloc: Global, value: i128) -> Rise
         requires low { neg_ℤ BOUND ≤ℤ value }
         requires high { value ≤ℤ BOUND }
@@ -40,7 +38,6 @@ impl Rise {
         Rise::of(value, false, Vec::new(alloc))
     }
 
-    /// A copy of a wall. The only error is want of memory.
     pub fn copy(&self, alloc: Global) -> Result<Rise, AllocError>
         requires { IsWall self.now }
         ensures wall { IfOk result IsWall }

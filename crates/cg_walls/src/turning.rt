@@ -1,4 +1,4 @@
-//! A scaffold that is kept from a time on.
+//! A scaffold that is constant from some time on.
 ghost use Rattle.std.specs.Prelude.{◌≡◌, ℕ, ◌<◌, ◌≤◌, ◌≤ℤ◌, ◌-ℤ◌, pos, IfOk};
 ghost use Rattle.cg_walls.specs.declared.TheConstants.{BOUND};
 ghost use Rattle.cg_walls.specs.Rises.{IsWall, turned, value_at};
@@ -6,8 +6,7 @@ ghost use Rattle.cg_walls.specs.Rises.{IsWall, turned, value_at};
 use crate::{END, Rise};
 use std::alloc::{AllocError, Global};
 
-/// At each time t up to the end, t less the value of the wall; from the end on, what that is at the end. The only error
-/// is want of memory.
+/// At each time t up to `end`, t less the value of the wall; constant from there.
 #[inline(always)]
 pub fn turned(alloc: Global, rise: &Rise, end: u128) -> Result<Rise, AllocError>
     requires wall { IsWall rise.now }

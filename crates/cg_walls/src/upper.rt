@@ -21,7 +21,7 @@ fn leads(p: &Place, q: &Place) -> bool
     }
 }
 
-// When p, if it is lower and rises and q stays, has come up with q.
+// When p catches up with q, if p is lower and rises while q stays.
 fn catch_up(now: u128, p: &Place, q: &Place) -> u128
     requires now { now < END }
     requires p { Within p.now }
@@ -35,7 +35,7 @@ fn catch_up(now: u128, p: &Place, q: &Place) -> u128
     }
 }
 
-// Up to when the greater of the two goes as it goes now.
+// The time up to which the greater of the two keeps its direction.
 fn event(a: &Rise, b: &Rise, now: u128, p: &Place, q: &Place) -> u128
     requires now { now < END }
     requires p { Within p.now }
@@ -47,7 +47,6 @@ fn event(a: &Rise, b: &Rise, now: u128, p: &Place, q: &Place) -> u128
     turn.min(meeting)
 }
 
-/// The greater of two walls. The only error is want of memory.
 #[inline(always)]
 pub fn higher(alloc: Global, a: &Rise, b: &Rise) -> Result<Rise, AllocError>
     requires a { IsWall a.now }

@@ -1,4 +1,4 @@
-//! The command and its four options, as clap has them.
+//! The command and its four options, for clap.
 ghost use Rattle.std.specs.Prelude.{◌≡◌, IfOk};
 ghost use Rattle.clap.specs.Words.{app_of, rule_of};
 ghost use Rattle.cg_words.specs.Accepted.{cg_command, number_option, number_option_or};
@@ -7,7 +7,7 @@ ghost use Rattle.cg_words.specs.Options.{HasOptions, IsOption, IsOptionOr};
 use clap::{Arg, ArgAction, Command, value_parser};
 use std::alloc::{AllocError, Global};
 
-/// The program's command. Its words begin after the program's name.
+/// The program's command, for the words after the program's name.
 pub fn command<'a>(alloc: Global) -> Result<Command<'a>, AllocError>
     ensures shape { IfOk result (λ c. app_of c ≡ cg_command) }
     ensures options { IfOk result (λ c. HasOptions c) }
@@ -24,7 +24,6 @@ pub fn command<'a>(alloc: Global) -> Result<Command<'a>, AllocError>
         .arg(sample)
 }
 
-/// An option that takes one number from 1 to `most`.
 fn number_option<'a>(alloc: Global, name: &'a str, most: u32) -> Arg<'a>
     ensures rule { rule_of result ≡ number_option name.entry.now most }
     ensures option { IsOption name.entry.now most result }
@@ -35,7 +34,6 @@ fn number_option<'a>(alloc: Global, name: &'a str, most: u32) -> Arg<'a>
         .value_parser(value_parser!(u64).range(1..=i64::from(most)))
 }
 
-/// The same, with the value that it has where it isn't given.
 fn number_option_or<'a>(alloc: Global, name: &'a str, most: u32, default: &'a str) -> Arg<'a>
     ensures rule { rule_of result ≡ number_option_or name.entry.now most default.entry.now }
     ensures option { IsOptionOr name.entry.now most result }

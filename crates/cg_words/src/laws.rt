@@ -1,4 +1,4 @@
-//! What the command makes of words that are written out: each function does nothing, and its contract is the law.
+//! What the command makes of particular words: each function does nothing, and its contract is the law.
 ghost use Rattle.std.specs.Prelude.{[], ◌∷◌, codes};
 ghost use Rattle.clap.specs.declared.error.kind.ErrorKind.TheVariants as kind;
 ghost use Rattle.cg_words.specs.Literal.{Gives, Refuses, one, two};

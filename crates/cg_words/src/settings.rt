@@ -14,30 +14,27 @@ use thiserror::Error;
 /// What the words ask for.
 #[derive(Clone, Copy, Debug, Drop, PartialEq, Eq)]
 pub struct Settings {
-    /// How many workers answer lines side by side, from 1 to 64.
+    /// How many workers answer lines in parallel, from 1 to 64.
     pub workers: u64,
     /// How many cells the table has, from 1 to 67,108,864.
     pub cells: u64,
     /// The most items that one list of items may have, from 1 to 1,048,576.
     pub positions: u64,
-    /// How many lines the sample has, from 1 to 4,096, or 0 where none is asked for.
+    /// How many lines the sample has, from 1 to 4,096, or 0 if none is asked for.
     pub sample: u64,
 }
 
 /// Why there are no settings.
 #[derive(Clone, Copy, Debug, PartialEq, Eq, Error)]
 pub enum SettingsFault {
-    /// The words are not accepted.
     #[error("the words are not accepted")]
     Usage,
-    /// Memory was wanting.
     #[error("memory was wanting")]
     Memory,
 }
 
 impl Settings {
-    /// The settings that the words after the program's name ask for, in their ranges. Usage comes exactly where the
-    /// words are not accepted, and Memory only where memory was wanting.
+    /// Reads the words after the program's name.
     pub fn read(alloc: Global, words: &[String]) -> Result<Settings, SettingsFault>
         ensures accepted { IfOk result (λ s. Accepted (map string_bytes words.now) s) }
         ensures range { IfOk result (λ s. InRange s) }
@@ -66,7 +63,7 @@ impl Settings {
     }
 }
 
-/// The number that the option was given, or 0 where it has none.
+/// The option's number, or 0 if it isn't given.
 fn number(matches: &ArgMatches, id: &str) -> u64
     requires { (t : List ℕ) → one_text (found_of matches.now) id.now ≡ Some t → IsUnsignedIn 1 67108864 t }
     ensures { result ≡ number_in (found_of matches.now) id.now }
