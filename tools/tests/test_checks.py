@@ -319,22 +319,16 @@ class Pages(Tried):
         return top
 
     def test_nothing_to_check(self):
-        self.fails("0 of 15 pages with bounds are there", "check-pages", top=self.with_pages(page="[a link](page.md)\n"))
+        self.fails("0 pages", "check-pages", top=self.with_pages(page="[a link](page.md)\n"))
         code = "```\n[a link](README.md)\n```\n`[one](README.md)`\n"
         self.fails("0 links", "check-pages", top=self.with_pages(README=code))
 
-    def test_pages_that_are_too_long(self):
-        text = "[a link](README.md)\n"
-        for told, pages in [
-            ("README.md: 1051 words of at most 1050", {"README": text + "word " * 1_049}),
-            ("README.md: 151 lines of at most 150", {"README": text + "\n" * 150}),
-            ("docs/ERRORS.md: 1051 words of at most 1050", {"README": text, "docs__ERRORS": "| a |\n" * 350 + "word"}),
-            ("docs/: 25201 words of at most 25200", {"README": text, "docs__a": "word " * 25_000, "docs__b__c": "word " * 201}),
-        ]:
-            with self.subTest(told=told):
-                top = self.with_pages(**pages)
-                self.fails(told, "check-pages", top=top)
-                self.assertIn("docs/PROOF.md isn't there yet", self.run_tool("check-pages", top=top)[1])
+    def test_pages_without_an_entry(self):
+        way = {"README": "[one](docs/one.md)\n", "docs__one": "[two](sub/two.md#two)\n", "docs__sub__two": "# Two\n"}
+        self.assertEqual(self.run_tool("check-pages", top=self.with_pages(**way))[0], 0)
+        told = "no page that a reader of README.md finds links to docs/"
+        self.fails(told + "sub/three.md", "check-pages", top=self.with_pages(**way, docs__sub__three="[one](../one.md)\n"))
+        self.fails(told + "sub/two.md", "check-pages", top=self.with_pages(**{**way, "docs__one": "`[two](sub/two.md)`\n"}))
 
     def test_links(self):
         headings = "# A `page`, it's said\n## Twice\n```\n# Code\n```\n## Twice\n### [A link](#twice) in it\n"
@@ -343,7 +337,9 @@ class Pages(Tried):
         bad = ["nowhere.md", "other.md#code", "other.md#twice-2", "#two", "../..", "../tools/command.py#one", "other.md#Twice"]
         for link in good + bad:
             with self.subTest(link=link):
-                top = self.with_pages(README="word\n", docs__other=headings, docs__page=f"# One\n[`code`]({link}) [one](#one)\n")
+                entries = "[other](docs/other.md) [page](docs/page.md)\n"
+                page = f"# One\n[`code`]({link}) [one](#one)\n"
+                top = self.with_pages(README=entries, docs__other=headings, docs__page=page)
                 ended, written = self.run_tool("check-pages", top=top)
                 self.assertEqual(ended, int(link in bad), written)
                 self.assertIs(f"docs/page.md:2: the link to {link} leads nowhere" in written, link in bad)
@@ -397,7 +393,7 @@ pub fn run<G>(game: G)
         "`answer`: `least`", "`cg_low::sums::answer`: `least`", "`Store`: `claim`, `kept` and `stands`", "`Store::claim`: `stands`",
         "`Desk::meet`", "`Status::Full`", "`Given`: `made`", "cg_low", "cg_low specs/Games; src/sums.rt", "`specs/Games`", "`_low`",
         "`tools/command.py --help`", "`{3|1}`", "crates/cg_low/src/sums.rt", EDIT.format("one_less"), LINES.format(5),
-        BLOCK.format("Done,"), "```\ncg_low\n```",
+        LINES.format(5) + "\n| all | 5 |", BLOCK.format("Done,"), "```\ncg_low\n```",
     )
     BAD = (
         ("`answer`: `most`", "`answer` has no clause most"),
@@ -412,6 +408,7 @@ pub fn run<G>(game: G)
         ("`_high`", "no crate's name ends in _high"),
         (EDIT.format("one_more"), "cg_low has no edit one_more"),
         (LINES.format(6), "the files have 5 lines, not 6"),
+        (LINES.format(5) + "\n| all | 6 |", "the files have 5 lines, not 6"),
         (BLOCK.format("Full(u8),"), "the block above doesn't stand in"),
         ("```\ncg_high\n```", "there is no crate cg_high"),
     )
