@@ -22,6 +22,7 @@ impl Model for Divisor {
 }
 
 impl Divisor {
+    /// The divisor that is this number.
     pub fn new(number: u64) -> Divisor
         requires { 1 ≤ number }
         ensures { result ≡ number }
@@ -32,6 +33,7 @@ impl Divisor {
         }
     }
 
+    /// The number that it divides by.
     pub fn number(&self) -> u64
         ensures value { result ≡ self.now }
         ensures positive { 1 ≤ self.now }
@@ -47,6 +49,7 @@ impl Divisor {
         ((number as u128 * self.reciprocal as u128) >> 64) as u64
     }
 
+    /// The remainder of a number.
     pub fn remainder(&self, number: u64) -> u64
         ensures value { result ≡ number % self.now }
         ensures below { result < self.now }

@@ -21,6 +21,7 @@ impl Model for Id {
 }
 
 impl Id {
+    /// The id of the cell with this number.
     pub fn new(number: u32) -> Id
         requires { number < 2 ^ 26 }
         ensures { result ≡ number }
@@ -28,6 +29,7 @@ impl Id {
         Id { number }
     }
 
+    /// The number of the cell.
     pub fn number(&self) -> u32
         ensures value { result ≡ self.now }
         ensures small { self.now < 2 ^ 26 }

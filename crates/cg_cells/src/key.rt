@@ -215,6 +215,7 @@ impl Key {
         if word == 0 { None } else { Some(Key { word }) }
     }
 
+    /// The word of the key, which is never 0.
     pub fn word(&self) -> u64
         ensures value { result ≡ self.now }
         ensures nonzero { self.now ≢ 0 }

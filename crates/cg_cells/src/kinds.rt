@@ -8,6 +8,7 @@ use crate::bits::{COLUMNS, GAME, KIND, NEXT, ROWS, SECOND, field_of};
 use crate::{Id, Key};
 
 impl Key {
+    /// The key of a chunk.
     pub fn chunk(content: u32, next: Option<Id>) -> Key
         ensures value { result ≡ word_of (Chunk content next) }
         ensures parts { parts_of result ≡ Some (Chunk content next) }
@@ -18,6 +19,7 @@ impl Key {
         }
     }
 
+    /// The key of a list.
     pub fn list(first: Id, rest: Option<Id>) -> Key
         ensures value { result ≡ word_of (Cons first rest) }
         ensures parts { parts_of result ≡ Some (Cons first rest) }
@@ -28,6 +30,7 @@ impl Key {
         }
     }
 
+    /// The key of a game, of which one list at least isn't empty.
     pub fn game(lefts: Option<Id>, rights: Option<Id>) -> Key
         requires { 1 ≤ id_field lefts + id_field rights }
         ensures value { result ≡ word_of (Game lefts rights) }
@@ -39,6 +42,7 @@ impl Key {
         }
     }
 
+    /// The key of a pair, the lesser id first.
     pub fn pair(low: Id, high: Id) -> Key
         requires { low ≤ high }
         ensures value { result ≡ word_of (Pair low high) }
@@ -50,6 +54,7 @@ impl Key {
         }
     }
 
+    /// The key of a board of the game with this number, from 1 to 15, with 1 to 64 rows and columns.
     pub fn board(number: u8, rows: u8, columns: u8, first: Id) -> Key
         requires number { (1 ≤ number) × (number ≤ 15) }
         requires rows { (1 ≤ rows) × (rows ≤ 64) }

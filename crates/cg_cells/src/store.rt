@@ -61,6 +61,7 @@ pub trait CellStore<F: Facts> {
         ensures none { IfNone result (¬ Has (state self.old).noted id) }
         ensures spends { Spends 0 (state self.old) (state self.new) };
 
+    /// How many claims are left.
     fn spare(&self) -> u64
         ensures value { result ≡ (state self.now).spare }
         ensures few { result ≤ 2 ^ 26 };

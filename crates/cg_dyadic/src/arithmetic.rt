@@ -33,18 +33,21 @@ impl Dyadic {
         Dyadic { num, exp }
     }
 
+    /// The sum.
     pub fn add(self, other: Dyadic) -> Result<Dyadic, RangeFault>
         ensures { IsExact (sum_num self other) (exp_of self + exp_of other) result }
     {
         Dyadic::make(sum_numerator(self, other), self.exp() + other.exp())
     }
 
+    /// Half the sum.
     pub fn half_sum(self, other: Dyadic) -> Result<Dyadic, RangeFault>
         ensures { IsExact (sum_num self other) (exp_of self + exp_of other + 1) result }
     {
         Dyadic::make(sum_numerator(self, other), self.exp() + other.exp() + 1)
     }
 
+    /// The negative, which is always in range.
     pub fn negate(self) -> Dyadic
         ensures { IsNegative self result }
     {

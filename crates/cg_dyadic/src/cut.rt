@@ -11,6 +11,7 @@ pub struct Cut {
 }
 
 impl Cut {
+    /// The closed cut at a number.
     pub fn closed(at: Dyadic) -> Cut
         ensures at { result.at ≡ at }
         ensures closed { result.closed ≡ true }

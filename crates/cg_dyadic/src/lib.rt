@@ -46,6 +46,7 @@ impl Model for Dyadic {
 }
 
 impl Dyadic {
+    /// The numerator: odd, or the exponent is 0.
     pub fn num(&self) -> i128
         ensures value { result ≡ num_of self.now }
         ensures in_range { InRange self.now }
@@ -53,6 +54,7 @@ impl Dyadic {
         self.num
     }
 
+    /// The exponent of the denominator, from 0 to 40.
     pub fn exp(&self) -> u8
         ensures value { result ≡ exp_of self.now }
         ensures in_range { InRange self.now }

@@ -23,6 +23,7 @@ pub(crate) fn scaled(number: Dyadic, exp: u8) -> i128
 }
 
 impl Dyadic {
+    /// Whether this number is at most the other.
     pub fn le(self, other: Dyadic) -> bool
         ensures value { result ≡ number_le self other }
         ensures in_range { InRange self × InRange other }
@@ -33,6 +34,7 @@ impl Dyadic {
         scaled(self, other.exp) <= scaled(other, self.exp)
     }
 
+    /// The order of the two numbers; `Equal` only for the same number.
     pub fn compare(self, other: Dyadic) -> Ordering
         ensures order { result ≡ number_cmp self other }
         ensures same { (result ≡ Ordering.Equal) ↔ (self ≡ other) }
@@ -42,6 +44,7 @@ impl Dyadic {
         left.cmp(&right)
     }
 
+    /// The least number in range, -(2^64 - 1).
     pub fn least() -> Dyadic
         ensures value { result ≡ whole (neg_ℤ (pos (2 ^ 64 - 1))) }
     {
@@ -51,6 +54,7 @@ impl Dyadic {
         }
     }
 
+    /// The greatest number in range, 2^64 - 1.
     pub fn greatest() -> Dyadic
         ensures value { result ≡ whole (pos (2 ^ 64 - 1)) }
     {

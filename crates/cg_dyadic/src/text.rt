@@ -1,3 +1,4 @@
+//! Numbers from digits, and as text.
 ghost use Rattle.std.specs.Prelude.{◌≡◌, ◌^◌, ◌<◌, ℕ, IfOk, IfSome, MatchOption, string_bytes};
 ghost use Rattle.cg_dyadic.specs.Exact.{IsFromDigits, number_text};
 

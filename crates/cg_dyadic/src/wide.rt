@@ -75,6 +75,7 @@ fn text_of(alloc: Global, num: i128, exp: u8) -> Result<String, AllocError>
 }
 
 impl Wide {
+    /// The same number.
     pub fn of(x: Dyadic) -> Wide
         ensures same { result ≡ x }
         ensures in_range { InRange x }
@@ -82,6 +83,7 @@ impl Wide {
         Wide::of_units(units_of(x))
     }
 
+    /// The number with this many units of 1/2^60, below 2^126 in size.
     pub fn of_units(units: i128) -> Wide
         requires { unsigned_abs units < 2 ^ 126 }
         ensures { result ≡ ratio units places }
@@ -89,6 +91,7 @@ impl Wide {
         Wide { word: units }
     }
 
+    /// How many units of 1/2^60 it has.
     pub fn units(&self) -> i128
         ensures value { result ≡ units places self.now }
         ensures number { ratio result places ≡ self.now }
@@ -98,12 +101,14 @@ impl Wide {
         self.word
     }
 
+    /// The negative, which is always a wall value.
     pub fn negate(self) -> Wide
         ensures { IsNegative self result }
     {
         Wide::of_units(-self.units())
     }
 
+    /// The order of the two numbers; `Equal` only for the same number.
     pub fn compare(self, other: Wide) -> Ordering
         ensures order { result ≡ number_cmp self other }
         ensures same { (result ≡ Ordering.Equal) ↔ (self ≡ other) }

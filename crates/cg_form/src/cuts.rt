@@ -8,6 +8,7 @@ use crate::player::number_at_most;
 use cg_dyadic::Dyadic;
 use cg_dyadic::cut::Cut;
 
+/// Whether x is in the cut.
 pub fn in_cut(left: bool, cut: &Cut, x: Dyadic) -> bool
     ensures value { result ≡ in_cut left cut.now x }
     ensures in_range { InRange x }

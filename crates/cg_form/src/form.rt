@@ -1,3 +1,4 @@
+//! A form, and its lists of options.
 ghost use Rattle.std.specs.Prelude.{◌≡◌};
 ghost use Rattle.cg_form.specs.Forms.{games_of};
 
@@ -48,6 +49,7 @@ impl Model for Options {
 }
 
 impl Options {
+    /// The list of these options, in their order.
     pub fn of(items: Vec<Form>) -> Options
         ensures { result ≡ games_of items.items }
     {

@@ -24,6 +24,7 @@ pub use stdout_sink::StdoutSink;
 pub use steady_source::SteadySource;
 use thiserror::Error;
 
+/// The one error of a source or a sink.
 #[derive(Clone, Copy, Debug, PartialEq, Eq, Error)]
 #[error("the bytes could not be moved")]
 pub struct Failed;

@@ -61,6 +61,7 @@ impl MemorySink {
         })
     }
 
+    /// The bytes that it took.
     pub fn bytes(&self) -> &[u8]
         ensures { result.now ≡ self.now.bytes }
     {

@@ -40,6 +40,7 @@ impl Model for MemorySource {
 }
 
 impl MemorySource {
+    /// A source of these bytes; the first call has the number 1.
     pub fn new(bytes: Vec<u8>, most: usize, fails: Vec<u64>) -> MemorySource
         requires { 0 < most }
         ensures { result ≡ fresh_supply bytes.items most fails.items }

@@ -24,6 +24,7 @@ impl<R: Read + Drop> Model for StdinSource<R> {
 }
 
 impl<R: Read + Drop> StdinSource<R> {
+    /// A source over this reader, with no faults so far.
     pub fn new(reader: R) -> StdinSource<R>
         ensures { result ≡ record { bytes = R.remaining reader; faults = 0 } }
     {

@@ -26,6 +26,7 @@ impl<W: Write + Drop> Model for StdoutSink<W> {
 }
 
 impl<W: Write + Drop> StdoutSink<W> {
+    /// A sink over this writer, with no bytes and no faults so far.
     pub fn new(writer: W) -> StdoutSink<W>
         ensures { result ≡ record { bytes = W.contents writer; counted = Some 0; faults = 0 } }
     {

@@ -42,6 +42,7 @@ impl Model for Found {
 }
 
 impl Found {
+    /// No handles yet.
     pub fn new(alloc: Global) -> Result<Found, AllocError>
         ensures { IfOk result (λ found. found ≡ []) }
     {
@@ -52,6 +53,7 @@ impl Found {
         })
     }
 
+    /// Whether the handle was found.
     pub fn has(&self, handle: Handle) -> bool
         ensures { IsTrue result ↔ Has self.now handle }
     {
@@ -92,6 +94,7 @@ impl Found {
         Ok(())
     }
 
+    /// The handles in the order in which they were found.
     pub fn into_handles(self) -> Handles
         ensures { result ≡ self }
     {

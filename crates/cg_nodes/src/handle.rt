@@ -1,3 +1,4 @@
+//! Handles of numbers and games, and lists of handles.
 ghost use Rattle.std.specs.Prelude.{◌≡◌, ◌↔◌, IsTrue, [], length};
 
 use cg_cells::Id;
@@ -21,12 +22,14 @@ impl Model for Handle {
 }
 
 impl Handle {
+    /// The handle of this id.
     pub fn of(id: Id) -> Handle
         ensures { result ≡ id }
     {
         Handle { id }
     }
 
+    /// The id of the handle.
     pub fn id(&self) -> Id
         ensures { result ≡ self.now }
     {
@@ -85,30 +88,35 @@ impl Model for Handles {
 }
 
 impl Handles {
+    /// The list of these handles.
     pub fn of(items: Vec<Handle>) -> Handles
         ensures { result ≡ items.items }
     {
         Handles { items }
     }
 
+    /// How many handles there are.
     pub fn len(&self) -> usize
         ensures { result ≡ length self.now }
     {
         self.items.len()
     }
 
+    /// Whether there is no handle.
     pub fn is_empty(&self) -> bool
         ensures { IsTrue result ↔ (self.now ≡ []) }
     {
         self.items.is_empty()
     }
 
+    /// The handles in order.
     pub fn as_slice(&self) -> &[Handle]
         ensures { result.now ≡ self.now }
     {
         &self.items
     }
 
+    /// The handles in order, taken out.
     pub fn into_vec(self) -> Vec<Handle>
         ensures { result.items ≡ self }
     {

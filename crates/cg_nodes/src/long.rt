@@ -15,6 +15,7 @@ use cg_dyadic::Dyadic;
 /// How many values a chunk has.
 const CHUNK: u64 = 1 << 32;
 
+/// The content of a chunk, and the chunk after it.
 #[derive(Clone, Copy, Debug, PartialEq, Eq)]
 pub struct Chunk {
     pub content: u32,

@@ -79,6 +79,7 @@ pub fn known_game<B: BoardForms, S: CellStore<GameFacts<B>>>(store: &S, handle: 
     let _same = store.same(handle.id(), handle.id());
 }
 
+/// The number that the handle stands for, or `Kind::Game`.
 pub fn kind<B: BoardForms, S: CellStore<GameFacts<B>>>(store: &mut S, handle: Handle) -> Kind
     requires { IsGame (S.state store.old) handle }
     ensures kind { IsKind result (game_at (S.state store.old) handle) }
@@ -109,6 +110,7 @@ pub fn head<B: BoardForms, S: CellStore<GameFacts<B>>>(store: &mut S, list: List
     })
 }
 
+/// The handles of the list, in order.
 pub fn handles<B: BoardForms, S: CellStore<GameFacts<B>>>(
     alloc: Global,
     store: &mut S,

@@ -1,3 +1,4 @@
+//! The values of heaps in a list.
 ghost use Rattle.std.specs.Prelude.{◌≡◌, ◌↔◌, IsTrue, [], length};
 
 use std::marker::Model;
@@ -17,30 +18,35 @@ impl Model for Values {
 }
 
 impl Values {
+    /// The list of these values.
     pub fn of(items: Vec<u64>) -> Values
         ensures { result ≡ items.items }
     {
         Values { items }
     }
 
+    /// How many values there are.
     pub fn len(&self) -> usize
         ensures { result ≡ length self.now }
     {
         self.items.len()
     }
 
+    /// Whether there is no value.
     pub fn is_empty(&self) -> bool
         ensures { IsTrue result ↔ (self.now ≡ []) }
     {
         self.items.is_empty()
     }
 
+    /// The values in order.
     pub fn as_slice(&self) -> &[u64]
         ensures { result.now ≡ self.now }
     {
         &self.items
     }
 
+    /// The values in order, taken out.
     pub fn into_vec(self) -> Vec<u64>
         ensures { result.items ≡ self }
     {

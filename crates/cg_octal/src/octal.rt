@@ -1,3 +1,4 @@
+//! A heap of an octal game.
 ghost use Rattle.std.specs.Prelude.{◌≡◌, ◌≤◌, length};
 ghost use Rattle.cg_octal.specs.Codes.{AreOctal, IsOctalHeap};
 
@@ -43,6 +44,7 @@ impl Octal {
         &self.digits
     }
 
+    /// How many tokens the heap has, at most 1,000.
     pub fn heap(&self) -> u64
         ensures value { result ≡ self.now.heap }
         ensures within { result ≤ 1000 }

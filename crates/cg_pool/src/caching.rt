@@ -14,8 +14,10 @@ use std::alloc::{AllocError, Global};
 /// A [`Job`] whose workers keep a cache from line to line. Contracts also see when a cache is right, given what is
 /// known; it stays right when more is known. Every `Job` is a `CachingJob` that keeps nothing.
 pub trait CachingJob<F: Facts>: Sync {
+    /// The answer to one line.
     type Answer: Send + Drop;
 
+    /// What a worker keeps from line to line.
     type Cache: Send + Drop;
 
     ghost count: { Self → ℕ };

@@ -12,6 +12,7 @@ use std::alloc::{AllocError, Global};
 /// Lines that can be answered in any order. Contracts see how many there are, the spare that an answer needs, and which
 /// answers are good for a line, given what is known. An answer stays good when more is known.
 pub trait Job<F: Facts>: Sync {
+    /// The answer to one line.
     type Answer: Send + Drop;
 
     ghost count: { Self → ℕ };

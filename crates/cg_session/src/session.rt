@@ -1,3 +1,4 @@
+//! The top call.
 ghost use Rattle.std.specs.Prelude.{◌≡◌, ◌+◌, ◌<◌, ◌≤◌, ◌^◌, ℕ, List, [], IfSome, MatchOption, None};
 ghost use Rattle.cg_io.specs.Faults.{Rose};
 ghost use Rattle.cg_words.specs.Accepted.{IsAccepted, settings_of};

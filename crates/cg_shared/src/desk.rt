@@ -46,6 +46,7 @@ impl<'a, F: Facts> Model for Desk<'a, F> {
 }
 
 impl<'a, F: Facts> Desk<'a, F> {
+    /// The table with this pass of it.
     pub fn new(cells: &'a SharedCells<F>, pass: Pass<F>) -> Desk<'a, F>
         requires { IsPassOf cells.now pass }
         ensures { result ≡ pass }
@@ -53,6 +54,7 @@ impl<'a, F: Facts> Desk<'a, F> {
         Desk { cells, pass }
     }
 
+    /// The pass, at the end.
     pub fn into_pass(self) -> Pass<F>
         ensures { result ≡ self.entry }
     {

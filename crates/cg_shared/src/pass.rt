@@ -32,6 +32,7 @@ impl<F: Facts> Model for Pass<F> {
 }
 
 impl<F: Facts> Pass<F> {
+    /// How many claims it has left.
     pub fn spare(&self) -> u64
         ensures value { result ≡ self.now.sees.spare }
         ensures few { result ≤ 2 ^ 26 }
@@ -46,6 +47,7 @@ impl<F: Facts> Pass<F> {
         self.heirs
     }
 
+    /// Whether two known ids are known to be one thing.
     pub fn same(&self, a: Id, b: Id) -> bool
         requires a { Known (pass_state self.now) a }
         requires b { Known (pass_state self.now) b }

@@ -13,6 +13,7 @@ pub struct Plan {
     pub passes: u64,
 }
 
+/// The view of a pass.
 pub struct View<X> {
     of: PhantomData<X>,
     ghost sees: { ViewOf X } by { view_code X.code },

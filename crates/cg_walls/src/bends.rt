@@ -9,6 +9,7 @@ use crate::place::Place;
 use crate::{END, Rise};
 use std::alloc::{AllocError, Global};
 
+/// A point of a wall: its value at a time.
 #[derive(Clone, Copy, Debug)]
 pub struct Point {
     pub value: i128,
@@ -16,6 +17,7 @@ pub struct Point {
 }
 
 impl Point {
+    /// The point with this value at this time.
     pub fn of(value: i128, at: u128) -> Point
         ensures value { result.value ≡ value }
         ensures at { result.at ≡ at }

@@ -38,6 +38,7 @@ impl Rise {
         Rise::of(value, false, Vec::new(alloc))
     }
 
+    /// A copy of a wall.
     pub fn copy(&self, alloc: Global) -> Result<Rise, AllocError>
         requires { IsWall self.now }
         ensures wall { IfOk result IsWall }

@@ -47,6 +47,7 @@ fn event(a: &Rise, b: &Rise, now: u128, p: &Place, q: &Place) -> u128
     turn.min(meeting)
 }
 
+/// The greater of two walls, as a wall.
 #[inline(always)]
 pub fn higher(alloc: Global, a: &Rise, b: &Rise) -> Result<Rise, AllocError>
     requires a { IsWall a.now }

@@ -5,6 +5,7 @@ ghost use Rattle.cg_walls.specs.Rises.{IsWall, value_at};
 use crate::place::Place;
 use crate::{END, Rise};
 
+/// The value of the wall at this time.
 pub fn value(rise: &Rise, at: u128) -> i128
     requires wall { IsWall rise.now }
     requires at { at < END }
