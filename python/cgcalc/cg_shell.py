@@ -19,7 +19,7 @@ from cgcalc.tool import (
     PIPE_CLOSED,
     STOPPED,
     WRITE_FAILED,
-    Words,
+    CommandLine,
     end_by_signals,
     tell,
 )
@@ -66,7 +66,7 @@ def main(words: Optional[Sequence[str]] = None) -> int:
 
 def read_words(words: Optional[Sequence[str]]) -> argparse.Namespace:
     """The options that the words of the command line give."""
-    reader = Words(
+    reader = CommandLine(
         prog=COMMAND,
         description="Answers questions one by one, and keeps definitions; `:help` tells more.",
         epilog="The history is kept in ~/.cg_history, or in the file that CG_HISTORY names.",
