@@ -1,7 +1,7 @@
 """What a game was asked so far, and the answers."""
 from __future__ import annotations
 
-from typing import Any, Callable, Hashable, Mapping, Optional, TypeVar
+from typing import Any, Callable, Hashable, Optional, TypeVar
 
 from cgcalc.definitions import Named
 
@@ -13,8 +13,8 @@ OF_THERMOGRAPHS = ("mean", "temperature")
 class Answers:
     """The answers to what a game was asked, each by a key: the word, and the other game if any."""
 
-    def __init__(self, known: Optional[Mapping[str, Any]] = None) -> None:
-        self._known: dict[Hashable, Any] = dict(known or {})
+    def __init__(self, known: Optional[dict[Hashable, Any]] = None) -> None:
+        self._known = dict(known or {})
 
     def get(self, key: Hashable, ask: Callable[[], Answer]) -> Answer:
         """An answer, which is asked for the first time only."""
@@ -31,7 +31,7 @@ class Answers:
         """Takes an answer."""
         self._known[key] = answer
 
-    def without_names(self) -> dict[str, Any]:
+    def without_names(self) -> dict[Hashable, Any]:
         """The answers whose keys have no names, so that they mean the same elsewhere."""
         return {key: answer for key, answer in self._known.items() if isinstance(key, str)}
 

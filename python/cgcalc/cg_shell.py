@@ -105,10 +105,9 @@ def serve_terminal(shell: Shell) -> int:
     """Answers the lines that are typed, and gives the status."""
     history = history_place()
     start_editing(shell, history)
-    shell.is_typed = True
     say(f"{COMMAND}: a question on each line; `:help` tells more, Ctrl-D ends")
     try:
-        shell.serve(typed_lines())
+        shell.serve_typed(typed_lines())
     finally:
         keep_history(history)
     return 0

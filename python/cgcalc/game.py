@@ -2,7 +2,7 @@
 from __future__ import annotations
 
 from fractions import Fraction
-from typing import Any, Mapping, Optional
+from typing import Any, Hashable, Optional
 
 from cgcalc.answers import Answers, about
 from cgcalc.board import Board, read_board
@@ -280,7 +280,7 @@ class Game(Operand):
 
 
 def _unpickled(
-    terms: Terms, board: Optional[Board], names: Names, known: Mapping[str, Any]
+    terms: Terms, board: Optional[Board], names: Names, known: dict[Hashable, Any]
 ) -> Game:
     """A game that came from another process."""
     made = Game.__new__(Game)
@@ -295,5 +295,5 @@ def _parts_of(made_of: Expression) -> tuple[Terms, Optional[Board], Answers]:
     if isinstance(made_of, Board):
         return ((False, made_of.expression),), made_of, Answers()
     text = text_of(made_of)
-    known = {"value": made_of} if isinstance(made_of, Value) else {}
+    known: dict[Hashable, Any] = {"value": made_of} if isinstance(made_of, Value) else {}
     return terms_of(text), read_board(text), Answers(known)
