@@ -22,9 +22,11 @@ from cgcalc.boards import (
     toads,
 )
 from cgcalc.cache import Cache
+from cgcalc.defaults import default_session, use_session
 from cgcalc.definitions import Definition
 from cgcalc.errors import Refused, WrongCall
-from cgcalc.game import Game, default_session, game, use_session
+from cgcalc.game import Game
+from cgcalc.options import game
 from cgcalc.program import CgError, ProgramFailed, ProgramMissing, find_program
 from cgcalc.refusals import Refusal
 from cgcalc.replies import (

@@ -20,7 +20,7 @@ from cgcalc.tool import (
     STOPPED,
     WRITE_FAILED,
     BadUse,
-    Words,
+    CommandLine,
     end_by_signals,
     status_of,
     tell,
@@ -67,7 +67,7 @@ def main(words: Optional[Sequence[str]] = None) -> int:
 
 def read_words(words: Optional[Sequence[str]]) -> argparse.Namespace:
     """The words of the command line."""
-    reader = Words(prog=COMMAND, description=DESCRIPTION, epilog=EPILOG)
+    reader = CommandLine(prog=COMMAND, description=DESCRIPTION, epilog=EPILOG)
     reader.add_argument("questions", nargs="*", metavar="QUESTION", help="as 'compare ^ ; *'")
     reader.add_argument(
         "--questions",

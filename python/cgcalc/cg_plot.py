@@ -22,7 +22,7 @@ from cgcalc.tool import (
     STOPPED,
     WRITE_FAILED,
     BadUse,
-    Words,
+    CommandLine,
     end_by_signals,
     status_of,
     tell,
@@ -62,7 +62,7 @@ def main(words: Optional[Sequence[str]] = None) -> int:
 
 def read_words(words: Optional[Sequence[str]]) -> argparse.Namespace:
     """The words of the command line."""
-    reader = Words(
+    reader = CommandLine(
         prog=COMMAND,
         description="Draws the thermograph of each expression, side by side, in SVG.",
     )

@@ -19,7 +19,7 @@ from cgcalc.tool import (
     PIPE_CLOSED,
     STOPPED,
     WRITE_FAILED,
-    Words,
+    CommandLine,
     end_by_signals,
     tell,
 )
@@ -66,7 +66,7 @@ def main(words: Optional[Sequence[str]] = None) -> int:
 
 def read_words(words: Optional[Sequence[str]]) -> argparse.Namespace:
     """The options that the words of the command line give."""
-    reader = Words(
+    reader = CommandLine(
         prog=COMMAND,
         description="Answers questions one by one, and keeps definitions; `:help` tells more.",
         epilog="The history is kept in ~/.cg_history, or in the file that CG_HISTORY names.",
@@ -105,10 +105,9 @@ def serve_terminal(shell: Shell) -> int:
     """Answers the lines that are typed, and gives the status."""
     history = history_place()
     start_editing(shell, history)
-    shell.is_typed = True
     say(f"{COMMAND}: a question on each line; `:help` tells more, Ctrl-D ends")
     try:
-        shell.serve(typed_lines())
+        shell.serve_typed(typed_lines())
     finally:
         keep_history(history)
     return 0

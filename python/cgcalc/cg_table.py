@@ -29,7 +29,7 @@ from cgcalc.tool import (
     STOPPED,
     WRITE_FAILED,
     BadUse,
-    Words,
+    CommandLine,
     end_by_signals,
     status_of,
     tell,
@@ -63,7 +63,7 @@ def main(words: Optional[Sequence[str]] = None) -> int:
 
 def read_words(words: Optional[Sequence[str]]) -> argparse.Namespace:
     """The options that the words of the command line give."""
-    reader = Words(
+    reader = CommandLine(
         prog=COMMAND,
         description="Asks questions of many boards and writes a table of the answers.",
         epilog="The status is 1 where a question was refused; standard error then tells why.",

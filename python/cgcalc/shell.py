@@ -5,7 +5,7 @@ import re
 import shutil
 from dataclasses import replace
 from pathlib import Path
-from typing import Iterable, Optional
+from typing import Iterable, Iterator, Optional
 
 from cgcalc.definitions import Definition, words_in
 from cgcalc.drawing import drawn
@@ -38,8 +38,16 @@ class Shell:
     def __init__(self, session: Session) -> None:
         self.session = session
         self.status = 0
-        self.is_typed = False
         self.worksheet: list[str] = []
+
+    def serve_typed(self, lines: Iterator[str]) -> None:
+        """Serves lines as they are typed: Ctrl-C ends what a line asked for, and not the shell."""
+        while True:
+            try:
+                self.serve(lines)
+                return
+            except KeyboardInterrupt:
+                say("stopped")
 
     def serve(self, lines: Iterable[str]) -> None:
         """Answers each line; `status` tells of refusals and failures.
@@ -73,10 +81,6 @@ class Shell:
         except CgError as error:
             self.status = BAD_USE
             say(str(error))
-        except KeyboardInterrupt:
-            if not self.is_typed:
-                raise
-            say("stopped")
 
     def answer_value(self, expression: str) -> None:
         """Asks for the value of an expression that stands alone."""

@@ -9,9 +9,10 @@ from fractions import Fraction
 from typing import Callable, Iterable, Optional, Sequence, Union
 
 from cgcalc.boards import octal
+from cgcalc.defaults import default_session
 from cgcalc.errors import WrongCall
 from cgcalc.exact import exact_number, whole_number
-from cgcalc.game import Game, default_session
+from cgcalc.game import Game
 from cgcalc.operands import Expression
 from cgcalc.session import Session
 from cgcalc.values import Value

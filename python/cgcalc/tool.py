@@ -22,8 +22,8 @@ class BadUse(WrongCall):
     """What is wrong with how a command was called, in one line."""
 
 
-class Words(argparse.ArgumentParser):
-    """A reader of words that refuses them in one line, and takes no front of an option for it."""
+class CommandLine(argparse.ArgumentParser):
+    """The words of a command: wrong ones are refused in one line, and no front stands for an option."""
 
     def __init__(self, **given: Any) -> None:
         super().__init__(allow_abbrev=False, **given)

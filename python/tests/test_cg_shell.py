@@ -20,7 +20,7 @@ from cgcalc.completion import fitting, start_completion
 from cgcalc.games import FORMS, GAMES
 from cgcalc.help import BOARDS, EXPRESSIONS, QUESTIONS
 from cgcalc.replies import READERS
-from tests.places import ROOT, command, environment, program, run
+from tests.places import ROOT, command, environment, program, run, waits
 
 PROMPT = "cg> "
 BELL = "\x07"
@@ -57,6 +57,17 @@ class Terminal:
     def type(self, keys: str) -> None:
         """Types keys."""
         os.write(self.handle, keys.encode())
+
+    def stop(self) -> None:
+        """Types Ctrl-C when the command sleeps.
+
+        Between the moment when Python shows a prompt or a key and the one when it waits for the
+        next key, it keeps a Ctrl-C in mind until that key comes.
+        """
+        state = Path(f"/proc/{self.process}/stat")
+        if not waits(lambda: state.read_text().rpartition(") ")[2].startswith("S")):
+            raise AssertionError("the command doesn't wait for keys")
+        self.type("\x03")
 
     def ask(self, line: str) -> str:
         """What is shown below a line that is typed."""
@@ -173,14 +184,29 @@ class AtATerminal(unittest.TestCase):
         process = self.folder / "program.process"
         while not process.exists() or not process.read_text():
             time.sleep(0.02)
-        terminal.type("\x03")
+        terminal.stop()
         self.assertEqual(terminal.read().replace("^C", ""), "stopped\n")
         with self.assertRaises(ProcessLookupError):
             os.kill(int(process.read_text()), 0)
-        terminal.type("value 2\x03")
+        terminal.type("value 2")
+        terminal.read("value 2")
+        terminal.stop()
         terminal.read()
         terminal.type(":quit\n")
         self.assertEqual(terminal.status(), 0)
+
+    def test_what_is_loaded_is_stopped_as_a_whole(self) -> None:
+        script = 'echo $$ >> "$0.process"; exec sleep 1000'
+        terminal = self.terminal(CG=program(self.folder, script))
+        sheet = self.folder / "sheet"
+        sheet.write_text("value 1\nvalue 2\nvalue 3\n")
+        terminal.type(f":load {sheet}\n")
+        processes = self.folder / "program.process"
+        self.assertTrue(waits(lambda: processes.exists() and processes.read_text() != ""))
+        terminal.stop()
+        self.assertTrue(terminal.read().endswith("stopped\n"))
+        self.assertEqual(len(processes.read_text().split()), 1)
+        self.assertEqual(terminal.ask(":names"), "")
 
     @needs_readline
     def test_a_signal_ends_it_in_good_order(self) -> None:

@@ -6,9 +6,19 @@ from pathlib import Path
 
 import pytest
 
-from cgcalc import Definition, Game, Refusal, Refused, Session, Value, WrongCall, game, use_session
+from cgcalc import (
+    Definition,
+    Game,
+    Refusal,
+    Refused,
+    Session,
+    Value,
+    WrongCall,
+    default_session,
+    game,
+    use_session,
+)
 from cgcalc.definitions import Names, names_of, one_meaning
-from cgcalc.game import _defaults
 from tests.places import program
 
 RECORD = 'cat > "$0.last"; exec "$REAL" "$@" < "$0.last"'
@@ -98,7 +108,7 @@ def test_other_sessions_and_processes_know_what_the_names_mean() -> None:
 
 
 def test_names_of_the_default_session() -> None:
-    before = list(_defaults)
+    before = default_session()
     session = Session()
     session.define("room", "{4|0}")
     use_session(session)
@@ -109,7 +119,7 @@ def test_names_of_the_default_session() -> None:
         with pytest.raises(Refused, match="define the name"):
             assert Game("room").mean
     finally:
-        _defaults[:] = before
+        use_session(before)
 
 
 def test_definitions_that_are_refused() -> None:

@@ -15,7 +15,7 @@ from typing import Optional, Sequence
 from cgcalc.explore.access import HOST, Access, listening, make_server, names_of
 from cgcalc.explore.asking import Desk, Limits
 from cgcalc.program import CgError, find_program
-from cgcalc.tool import BAD_USE, STOPPED, Words, bytes_of, tell
+from cgcalc.tool import BAD_USE, STOPPED, CommandLine, bytes_of, tell
 from cgcalc.version import add_version
 
 COMMAND = "cg-explore"
@@ -48,7 +48,7 @@ def main(words: Optional[Sequence[str]] = None) -> int:
 
 def read_words(words: Optional[Sequence[str]]) -> argparse.Namespace:
     """The options that the words of the command line give."""
-    reader = Words(
+    reader = CommandLine(
         prog=COMMAND,
         description="Shows boards in the browser: draw one, see its value, make moves, play.",
         epilog="It prints the address of its page, and runs until Ctrl-C ends it.",
