@@ -5,49 +5,44 @@ processor. Replies are kept up to a number of bytes, so that going back asks not
 """
 from __future__ import annotations
 
-import os
 import threading
-from collections import OrderedDict
 from concurrent.futures import Executor, Future, ThreadPoolExecutor
-from dataclasses import dataclass
 from typing import Any, Callable, Iterable, Optional, Sequence, TypeVar
 
-from cgcalc.limits import MOST_CELLS, MOST_POSITIONS, POSITIONS, SHARE
+from cgcalc.asked import questions_in
+from cgcalc.batch import Batch
+from cgcalc.batch_limits import Limits as BatchLimits
+from cgcalc.explore.kept import Answer, Kept, Limits
+from cgcalc.limits import CELLS
+from cgcalc.processors import processors
 from cgcalc.program import CgError
 from cgcalc.refusals import Refusal
-from cgcalc.replies import Failed, Reply
+from cgcalc.replies import Reply
 from cgcalc.session import Session
+from cgcalc.stream import Replies
 
-Answer = TypeVar("Answer")
-FIRST_SHARES = (8_192, 131_072)
-"""The shares that are tried before the one that a question may have."""
-KEPT_BYTES = 8 << 20
+Result = TypeVar("Result")
+VALUE_SHARES = (4_096, 65_536)
+"""The shares that questions about values have before the one that they may have."""
+BOARD_SHARES = (65_536,)
+"""Those of questions about boards. A try that fails has listed all positions, which takes time."""
+CELLS_A_RUN = 131_072
+"""Questions that have more cells together go to several runs, if there are processors."""
+CELLS_AT_ONCE = 1 << 20
+"""Questions that are alike and have fewer cells together are asked without trying some first."""
+TRIED_FIRST = 4
 MOST_ASKINGS = 32
 MOST_EFFORT = 2
-GIB = 1 << 30
 LONGEST = 1_000_000
 """The most seconds that a clock is set to."""
 
 
-@dataclass(frozen=True)
-class Limits:
-    """What a question may take: cells, items of a list, seconds, and bytes of memory of its run."""
+class OneShare(BatchLimits):
+    """The limits of a batch that asks all lines with their whole share at once."""
 
-    share: int = SHARE
-    positions: int = POSITIONS
-    seconds: float = 20.0
-    memory: int = GIB
-
-    def raised(self, effort: int) -> Limits:
-        """The limits with each step of effort four times as high, as far as the program goes."""
-        times = 4**effort
-        share = min(self.share * times, MOST_CELLS // 4, self.memory * times // 64)
-        return Limits(
-            max(share, self.share),
-            min(self.positions * times, MOST_POSITIONS),
-            self.seconds * times,
-            self.memory * times,
-        )
+    def shares(self, lines: int) -> list[int]:
+        """The one share."""
+        return [self.share]
 
 
 class Stopped(CgError):
@@ -58,44 +53,12 @@ class Busy(CgError):
     """Too many requests wait for answers."""
 
 
-class Kept:
-    """The replies that were given last, up to a number of bytes."""
-
-    def __init__(self, most: int = KEPT_BYTES) -> None:
-        self._most, self._bytes = most, 0
-        self._replies: OrderedDict[str, tuple[Reply, int]] = OrderedDict()
-        self._lock = threading.Lock()
-
-    def get(self, line: str) -> tuple[Optional[Reply], int]:
-        """The reply to a line and the step of its share, if it is kept; else None and 0."""
-        with self._lock:
-            if line in self._replies:
-                self._replies.move_to_end(line)
-            return self._replies.get(line, (None, 0))
-
-    def put(self, line: str, reply: Reply, step: int) -> None:
-        """Keeps a reply. A refusal isn't kept, since it depends on the limits."""
-        if isinstance(reply, (Refusal, Failed)):
-            return
-        with self._lock:
-            if line not in self._replies:
-                self._bytes += _size(line, reply)
-            self._replies[line] = reply, step
-            while self._bytes > self._most:
-                oldest, (old, _) = self._replies.popitem(last=False)
-                self._bytes -= _size(oldest, old)
-
-
-def _size(line: str, reply: Reply) -> int:
-    return 400 + len(line) + 4 * len(str(reply))
-
-
 class Desk:
     """Where all requests ask: one pool of runs, the limits, and the kept replies."""
 
     def __init__(self, limits: Limits, program: Optional[str] = None) -> None:
         self.limits, self.program = limits, program
-        self.processors = os.cpu_count() or 1
+        self.processors = processors()
         self.kept = Kept()
         self._pool = ThreadPoolExecutor(self.processors, thread_name_prefix="cg-explore")
         self._askings: dict[str, Asking] = {}
@@ -157,7 +120,7 @@ class Asking(Executor):
         self._jobs: list[Any] = []
         self._why: Optional[str] = None
         self._lock = threading.Lock()
-        self.step = 0
+        self.need = 0
         seconds = limits.seconds
         late = f"it took more than {seconds:g} seconds"
         self._clock = threading.Timer(min(seconds, LONGEST), self.stop, [late])
@@ -165,8 +128,8 @@ class Asking(Executor):
         self._clock.start()
 
     def submit(
-        self, function: Callable[..., Answer], /, *arguments: Any, **named: Any
-    ) -> Future[Answer]:
+        self, function: Callable[..., Result], /, *arguments: Any, **named: Any
+    ) -> Future[Result]:
         """Makes a run when a processor is free for it."""
         with self._lock:
             if self._why:
@@ -202,39 +165,67 @@ class Asking(Executor):
             executor=self,
         )
 
-    def ask(self, lines: Iterable[str], first: int = 0) -> list[Reply]:
+    def ask(self, lines: Iterable[str], first: Sequence[int] = VALUE_SHARES) -> list[Reply]:
         """The replies to questions without names, each asked once, at the least share that does.
 
-        `first` is the step at which to begin, where it is known that less won't do.
+        `first` are the shares that are tried before the one that a question may have. `need` is the
+        greatest that one of these replies took.
         """
-        asked = list(lines)
-        kept = {line: self._desk.kept.get(line) for line in asked}
-        self.step = max((step for reply, step in kept.values() if reply is not None), default=0)
-        found = {line: reply for line, (reply, _) in kept.items()}
-        wanting = [line for line, reply in found.items() if reply is None]
-        shares = self._shares()
-        for step, share in list(enumerate(shares))[min(first, len(shares) - 1) :]:
-            if wanting:
-                replies = self._replies(self.session(share), wanting)
-                self.step = max(self.step, step)
-                for line, reply in zip(wanting, replies):
-                    found[line] = reply
-                    self._desk.kept.put(line, reply, step)
-                wanting = [line for line in wanting if _is_full(found[line])]
-        return [reply for reply in (found[line] for line in asked) if reply is not None]
+        asked, most = questions_in(lines), self.limits.share
+        found = {line: self._desk.kept.get(line, self.limits) for line in asked}
+        for share in (*sorted({share for share in first if share < most}), most):
+            wanting = [line for line, answer in found.items() if answer is None]
+            found.update(self._kept(wanting, share))
+        answers = [answer for answer in (found[line] for line in asked) if answer is not None]
+        self.need = max((answer.share for answer in answers), default=0)
+        return [answer.reply for answer in answers]
 
-    def _shares(self) -> list[int]:
-        return [share for share in FIRST_SHARES if share < self.limits.share] + [self.limits.share]
+    def ask_alike(self, lines: Sequence[str], most: int) -> list[Reply]:
+        """The replies to questions that need much the same share, probably at most a known one.
 
-    def _replies(self, session: Session, lines: Sequence[str]) -> list[Reply]:
-        """The replies of a session, or Stopped where it was stopped in the middle."""
+        Where a table for all of them is large, some are asked first to see what they need.
+        """
+        small, shares = most // 16, [most // 4, most]
+        fresh = [line for line in lines if self._desk.kept.get(line, self.limits) is None]
+        if len(fresh) * shares[0] > CELLS_AT_ONCE:
+            some = fresh[:: max(len(fresh) // TRIED_FIRST, 1)][:TRIED_FIRST]
+            answered = self._kept(some, small)
+            if 2 * len(answered) >= len(some):
+                shares = [small, *shares]
+        return self.ask(lines, shares)
+
+    def _kept(self, lines: Sequence[str], share: int) -> dict[str, Answer]:
+        """The answers to lines with a share, which are kept, but for those that need more cells."""
+        found = {}
+        for line, reply in zip(lines, self._replies(lines, share)):
+            if share == self.limits.share or not _is_full(reply):
+                found[line] = Answer(reply, share, None)
+                self._desk.kept.put(line, reply, share, self.limits)
+        return found
+
+    def _replies(self, lines: Sequence[str], share: int) -> list[Reply]:
+        """The replies to lines with a share, or Stopped where they were stopped in the middle."""
+        if not lines:
+            return []
+        runs = min(self._desk.processors, len(lines), -(-len(lines) * share // CELLS_A_RUN))
+        limits = OneShare(
+            share,
+            self.limits.positions,
+            CELLS,
+            runs,
+            self._desk.program,
+            self.limits.seconds,
+            self.limits.memory,
+            self,
+        )
         try:
-            replies = session.ask(lines)
+            with Replies(lines, Batch(lines, lambda _: [], limits)) as replies:
+                found = list(replies)
         except CgError:
             self.check()
             raise
         self.check()
-        return replies
+        return found
 
     def check(self) -> None:
         """Raises Stopped where the request was stopped."""
@@ -242,5 +233,5 @@ class Asking(Executor):
             raise Stopped(self._why)
 
 
-def _is_full(reply: Optional[Reply]) -> bool:
+def _is_full(reply: Reply) -> bool:
     return isinstance(reply, Refusal) and reply.kind == "full"

@@ -13,7 +13,8 @@ import webbrowser
 from typing import Optional, Sequence
 
 from cgcalc.explore.access import HOST, Access, listening, make_server, names_of
-from cgcalc.explore.asking import Desk, Limits
+from cgcalc.explore.asking import Desk
+from cgcalc.explore.kept import Limits
 from cgcalc.program import CgError, find_program
 from cgcalc.tool import BAD_USE, STOPPED, CommandLine, bytes_of, tell
 from cgcalc.version import add_version

@@ -6,7 +6,8 @@ import threading
 from typing import Optional
 
 from cgcalc.explore.access import HOST, Access, listening, make_server
-from cgcalc.explore.asking import Desk, Limits
+from cgcalc.explore.asking import Desk
+from cgcalc.explore.kept import Limits
 from cgcalc.explore.server import Site
 from cgcalc.game import Game
 from cgcalc.limits import SHARE

@@ -4,7 +4,7 @@ from __future__ import annotations
 from typing import Any, Optional, Sequence
 
 from cgcalc.errors import WrongCall
-from cgcalc.explore.asking import Asking
+from cgcalc.explore.asking import BOARD_SHARES, Asking
 from cgcalc.explore.told import Told, short_name, told
 from cgcalc.moves.sums import Part, Position, sum_of
 from cgcalc.refusals import Refusal
@@ -57,8 +57,8 @@ class Shown:
         self.position, self.asking = position, asking
         self.texts = [closed(text) for text in position]
         lines = [f"value {text}" for text in self.texts]
-        self.values: list[Reply] = asking.ask(lines)
-        self.step = asking.step
+        self.values: list[Reply] = asking.ask(lines, BOARD_SHARES)
+        self.need = asking.need
 
     @property
     def names(self) -> list[str]:
@@ -74,6 +74,12 @@ class Shown:
     def is_bad(self) -> bool:
         """Whether a part is refused."""
         return any(isinstance(reply, (Refusal, Failed)) for reply in self.values)
+
+    @property
+    def is_worth_asking(self) -> bool:
+        """Whether moves may have values: those of a part that lacks cells often need fewer."""
+        bad = [reply for reply in self.values if isinstance(reply, (Refusal, Failed))]
+        return all(isinstance(reply, Refusal) and reply.kind == "full" for reply in bad)
 
     def rest(self, part: int) -> str:
         """The other parts, added up."""
@@ -145,11 +151,11 @@ OF_TEXTS = {
 """The causes whose place is one of a text, with the games in which that text is the last."""
 
 
-def values_at(names: Sequence[str], asking: Asking, first: int) -> dict[str, Reply]:
-    """The value of each of some expressions, asked from a step of the shares on."""
-    different = list(dict.fromkeys(names))
-    lines = [f"value {name}" for name in different]
-    return dict(zip(different, asking.ask(lines, first)))
+def values_of_moves(texts: Sequence[str], asking: Asking, need: int) -> dict[str, Reply]:
+    """The value of each of the positions that moves lead to, where the one before took a share."""
+    different = list(dict.fromkeys(texts))
+    lines = [f"value {text}" for text in different]
+    return dict(zip(different, asking.ask_alike(lines, need)))
 
 
 def thermographs(
@@ -162,12 +168,12 @@ def thermographs(
     }
 
 
-def winner_of(reply: Reply) -> Optional[str]:
+def winner_of(reply: Optional[Reply]) -> Optional[str]:
     """Who wins, by an answer to `outcome`; None where it is refused."""
     return getattr(reply, "winner", None)
 
 
-def stops_of(reply: Reply) -> Optional[Stops]:
+def stops_of(reply: Optional[Reply]) -> Optional[Stops]:
     """The stops, or None where they are refused."""
     return reply if isinstance(reply, Stops) else None
 

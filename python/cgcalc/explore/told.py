@@ -2,10 +2,11 @@
 from __future__ import annotations
 
 from fractions import Fraction
+from itertools import accumulate
 from typing import Any, Mapping, Optional
 
 from cgcalc.errors import ADVICE
-from cgcalc.explore.asking import Limits
+from cgcalc.explore.kept import Limits
 from cgcalc.latex import latex_of
 from cgcalc.names import with_bars
 from cgcalc.refusals import Refusal
@@ -30,7 +31,8 @@ LIMITED = {
     " as much, or start cg-explore with --timeout and --memory and larger numbers.",
 }
 LONGEST_NAME = 20_000
-MOST_BRACES = 60
+DEEPEST_NAME = 60
+"""How many braces a name opens at once that is asked about; the program reads some more."""
 
 
 def told(reply: Reply, line: str, limits: Limits) -> Told:
@@ -94,9 +96,19 @@ def wall_told(wall: Wall) -> list[list[str]]:
 def short_name(reply: Optional[Reply], text: str) -> str:
     """What stands for an expression in further questions: its value, if that can be typed back."""
     if isinstance(reply, Value) and len(reply.name) < LONGEST_NAME:
-        if reply.name.count("{") < MOST_BRACES:
+        if depth_of(reply.name) < DEEPEST_NAME:
             return reply.name
     return text
+
+
+def depth_of(name: str) -> int:
+    """How many braces a name opens at once.
+
+    >>> depth_of("{{2|0}|{0|-2}}"), depth_of("1/2")
+    (2, 0)
+    """
+    steps = ((sign == "{") - (sign == "}") for sign in name)
+    return max(accumulate(steps), default=0)
 
 
 def attains(

@@ -63,13 +63,15 @@ class Judge:
         keep = tuple(m for m, value in zip(self.moves, self.values) if value.name in names)
         wanting = {value.name for value in self.values} - names
         dominated = self._dominated(sorted(wanting))
-        others = []
-        for move, value in zip(self.moves, self.values):
-            if value.name in dominated:
-                others.append(OtherMove(move, DOMINATED, self._move_to(dominated[value.name])))
-            elif value.name in wanting:
-                others.append(OtherMove(move, REVERSIBLE, self._answer(move)))
-        return SensibleMoves(keep, tuple(others))
+        others = [(m, v.name) for m, v in zip(self.moves, self.values) if v.name in wanting]
+        answers = self._answers([move for move, name in others if name not in dominated])
+        reasons = [
+            OtherMove(move, DOMINATED, self._move_to(dominated[name]))
+            if name in dominated
+            else OtherMove(move, REVERSIBLE, answers[move])
+            for move, name in others
+        ]
+        return SensibleMoves(keep, tuple(reasons))
 
     def _dominated(self, names: Sequence[str]) -> dict[str, str]:
         """For each of the values the first other one that is better, if there is one.
@@ -91,14 +93,22 @@ class Judge:
         replies = self.session.ask([f"compare {one} ; {other}" for one, other in pairs])
         return [isinstance(reply, Order) and reply.sign in signs for reply in replies]
 
-    def _answer(self, move: SumMove) -> SumMove:
-        """The first answer that leaves the other player no worse off than before the move."""
-        answers = moves_in(move.after, OTHER[self.player], self.session)
-        pairs = [(sum_of(answer.after), self.whole.name) for answer in answers]
-        for answer, fine in zip(answers, self._at_least(pairs)):
+    def _answers(self, moves: Sequence[SumMove]) -> dict[SumMove, SumMove]:
+        """For each move the first answer that leaves the other player no worse off than before."""
+        pairs = [
+            (move, answer)
+            for move in moves
+            for answer in moves_in(move.after, OTHER[self.player], self.session)
+        ]
+        texts = [(sum_of(answer.after), self.whole.name) for _, answer in pairs]
+        found: dict[SumMove, SumMove] = {}
+        for (move, answer), fine in zip(pairs, self._at_least(texts)):
             if fine:
-                return answer
-        raise CgError(f"no reason was found why {move} isn't in the canonical form {self.whole}")
+                found.setdefault(move, answer)
+        for move in moves:
+            if move not in found:
+                raise CgError(f"no reason was found why {move} isn't in the canonical form")
+        return found
 
     def _move_to(self, name: str) -> SumMove:
         """The first move to a value."""
