@@ -1,49 +1,52 @@
-use Rattle.std.proofs.Common.{◌≡◌, ◌∙◌, ◌++◌, ◌∷◌, [], ap, append_assoc, length, map, sym, take, arith}
+use Rattle.std.proofs.Common.{ℕ, ◌∙◌, ◌++◌, ◌∷◌, [], ap, append_assoc, length, map, refl, sym, take}
 use Rattle.std.specs.List.{flat_map}
 use Rattle.std.proofs.lemmas.List.{map-append, take_all}
+use Rattle.cg_moves.specs.Grid.{Grid}
 use Rattle.cg_moves.specs.Kept.{kept}
 use Rattle.cg_moves.specs.Rules.{pieces}
-use Rattle.cg_moves.proofs.Links.{parts-found, parts-numbered, parts-same}
+use Rattle.cg_moves.proofs.Links.{parts-found, parts-numbered, pieces-same, pieces-uncut}
 use Rattle.cg_moves.proofs.Places.{in_read, take_next}
 use Rattle.cg_moves.proofs.linking.number_pieces.Goals as goal
 
-pub pieces_into-requires : goal.pieces_into-requires
-pieces_into-requires g c =
-    c.requires.has c.board-item.result (in_read c.args.boards.now c.loop-board.board-index c.board-item.result c.loop-board-test.true
-    c.board-item.is)
-
-pub number_all-requires : goal.number_all-requires
-number_all-requires g c =
+pub number_cut-requires : goal.number_cut-requires
+number_cut-requires g c =
     let r = g.R.Rules.game c.args.rules.now in
-    let own = c.in_ok-pieces_into.ensures c.requires.cuts in
-    parts-same (pieces r) c.args.linked.now.found c.loop-board.linked.found c.deref.result.now c.args.boards.now
-    c.loop-board.board-index c.board-item.result c.loop-board-test.true c.board-item.is c.loop-board.invariant.found
-    (c.deref.ensures.value ∙ own) c.requires.same_symbols
+    let s = c.loop-board in
+    let h = c.requires in
+    let here = in_read c.args.boards.now s.board-index c.board-item.result c.loop-board-test.true c.board-item.is in
+    record {
+      each = h.each;
+      cuts = h.cuts;
+      has = h.has c.board-item.result here;
+      uncut = pieces-uncut r h.each c.args.linked.now.found c.args.boards.now h.has s.linked.found s.board-index
+          s.invariant.found h.uncut;
+      same_symbols = pieces-same r h.each c.args.linked.now.found c.args.boards.now h.has s.linked.found s.board-index
+          s.invariant.found c.board-item.result here h.same_symbols;
+    }
 
 pub loop-board-preserved : goal.loop-board-preserved
 loop-board-preserved g c =
     let r = g.R.Rules.game c.args.rules.now in
-    let own = c.deref.ensures.value ∙ c.in_ok-pieces_into.ensures c.requires.cuts in
     let i = c.loop-board.board-index in
     let all = c.args.boards.now in
     let p = c.board-item.result in
-    let size = ap length (c.in_ok-pieces_into.ensures c.requires.cuts) in
-    let many : c.len.result ≡ length (pieces r p) = omega (arith, size) in
+    let old = c.args.linked.now in
+    let s = c.loop-board.linked in
+    let t = c.number_cut.new.linked in
+    let one = c.in_ok-number_cut.ensures in
+    let size : Grid → ℕ = λ q. length (pieces r q) in
     record {
-      next = c.loop-board.invariant.next;
-      found = parts-found (pieces r) c.args.linked.now.found c.loop-board.linked.found c.number_all.new.found
-          c.args.linked.now.numbers.items c.loop-board.linked.numbers.items c.number_all.new.numbers.items all i p
-          c.loop-board-test.true c.board-item.is c.loop-board.invariant.found c.loop-board.invariant.numbers c.deref.result.now own
-          c.in_ok-number_all.ensures.found c.in_ok-number_all.ensures.numbers;
-      numbers = parts-numbered (pieces r) c.args.linked.now.found c.loop-board.linked.found c.number_all.new.found
-          c.args.linked.now.numbers.items c.loop-board.linked.numbers.items c.number_all.new.numbers.items all i p
-          c.loop-board-test.true c.board-item.is c.loop-board.invariant.found c.loop-board.invariant.numbers c.deref.result.now own
-          c.in_ok-number_all.ensures.found c.in_ok-number_all.ensures.numbers;
-      counts = c.in_ok-push.ensures ∙ ap (λ z. z ++ (c.len.result ∷ [])) c.loop-board.invariant.counts
-          ∙ append_assoc c.args.linked.now.counts.items (map (λ q. length (pieces r q)) (take i all)) (c.len.result ∷ [])
-          ∙ ap (λ z. c.args.linked.now.counts.items ++ (map (λ q. length (pieces r q)) (take i all) ++ (z ∷ []))) many
-          ∙ ap (λ z. c.args.linked.now.counts.items ++ z) (sym (ap (map (λ q. length (pieces r q)))
-          (take_next all i p c.loop-board-test.true c.board-item.is) ∙ map-append (λ q. length (pieces r q)) (take i all) (p ∷ [])));
+      next = one.next ∙ c.loop-board.invariant.next;
+      found = parts-found (pieces r) old.found s.found t.found old.numbers.items s.numbers.items t.numbers.items all i p
+          c.loop-board-test.true c.board-item.is c.loop-board.invariant.found c.loop-board.invariant.numbers (pieces r p) refl
+          one.found one.numbers;
+      numbers = parts-numbered (pieces r) old.found s.found t.found old.numbers.items s.numbers.items t.numbers.items all i p
+          c.loop-board-test.true c.board-item.is c.loop-board.invariant.found c.loop-board.invariant.numbers (pieces r p) refl
+          one.found one.numbers;
+      counts = one.counts ∙ ap (λ z. z ++ (size p ∷ [])) c.loop-board.invariant.counts
+          ∙ append_assoc old.counts.items (map size (take i all)) (size p ∷ [])
+          ∙ ap (λ z. old.counts.items ++ z) (sym (ap (map size)
+          (take_next all i p c.loop-board-test.true c.board-item.is) ∙ map-append size (take i all) (p ∷ [])));
     }
 
 pub returns : goal.returns
