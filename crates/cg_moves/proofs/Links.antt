@@ -164,6 +164,15 @@ module _ (cut : Grid → List Grid) (start found new : List Grid) (before now af
   parts-numbered = rw parts-one (numbered-more found new before now after (flat_map cut (take i xs)) own
       (λ m q k. rw e (wider-kept found own m q k)) are put)
 
+-- the pieces of boards with the symbols of those that were found
+pub all_pieces-same : (r : GameRules) → ArePieces r → (found xs : List Grid) → ((q : Grid) → In q xs → r.has q ≡ true)
+    → SameSymbols (found ++ xs) → SameSymbols (found ++ flat_map (pieces r) xs)
+all_pieces-same r each found xs has h = same_symbols-from (found ++ xs) (found ++ flat_map (pieces r) xs) h
+    (λ q m. elim (in-append q found (flat_map (pieces r) xs) m) [
+      | inl o ↦ (q, in-append_left q found xs o, refl)
+      | inr o ↦ (let (x, k, n) = in-flat_map (pieces r) q xs o in (x, in-append_right x found xs k, each.symbols x q (has x k) n))
+    ])
+
 -- before the next of the boards is cut: what was found is the old boards and pieces of those before
 module _ (r : GameRules) (each : ArePieces r) (old xs : List Grid) (has : (q : Grid) → In q xs → r.has q ≡ true) (found : List Grid)
     (i : ℕ) (all : found ≡ kept old (flat_map (pieces r) (take i xs))) where

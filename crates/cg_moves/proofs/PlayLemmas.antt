@@ -7,7 +7,7 @@ use Rattle.cg_moves.specs.declared.edges.Edges.{Edges}
 use Rattle.cg_moves.specs.declared.edges.Edges.TheVariants.{Moves, Pieces}
 use Rattle.cg_moves.specs.declared.player.Player.{Player}
 use Rattle.cg_moves.specs.declared.player.Player.TheVariants.{Left, Right}
-use Rattle.cg_moves.specs.Grid.{Grid, with_cells}
+use Rattle.cg_moves.specs.Grid.{AreAlike, Grid, with_cells}
 use Rattle.cg_moves.specs.Kept.{kept}
 use Rattle.cg_moves.specs.Lawful.{ArePieces, IsLawful}
 use Rattle.cg_moves.specs.PieceReach.{all_piece_reached, piece_reach_of}
@@ -29,6 +29,11 @@ module _ {X Y : Type 0} where
 
 pub after-symbols : (r : GameRules) (player : Player) (p q : Grid) → In q (boards_after r player p) → q.symbols ≡ p.symbols
 after-symbols r player p q m = let (cells, n, e) = in-map (with_cells p) q (r.moves player p) m in ap (λ z. z.symbols) e
+
+pub after-alike : (r : GameRules) (player : Player) (p : Grid) → AreAlike (boards_after r player p)
+after-alike r player p q s m n =
+    let (some, i, e) = in-map (with_cells p) q (r.moves player p) m in
+    let (others, j, f) = in-map (with_cells p) s (r.moves player p) n in rw e (rw f refl)
 
 module _ (r : GameRules) (lawful : IsLawful r) where
   -- each part of a board is its own only part

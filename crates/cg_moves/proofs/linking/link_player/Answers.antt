@@ -10,7 +10,7 @@ use Rattle.cg_moves.proofs.Broad.{same_symbols-last}
 use Rattle.cg_moves.proofs.Carried.{if_ok, ok_any}
 use Rattle.cg_moves.proofs.Members.{carry}
 use Rattle.cg_moves.proofs.OnWalk.{whole}
-use Rattle.cg_moves.proofs.PlayLemmas.{after-symbols}
+use Rattle.cg_moves.proofs.PlayLemmas.{after-alike, after-symbols}
 use Rattle.cg_moves.proofs.linking.link_player.Goals as goal
 
 pub number_all-requires : goal.number_all-requires
@@ -30,6 +30,7 @@ number_pieces-requires g c =
       each = (c.requires.lawful.cut cuts).each;
       cuts = cuts;
       has = λ q m. after-has r c.requires.lawful.moves c.args.player p q c.requires.has (carry q _ _ moved m);
+      alike = rw moved (after-alike r c.args.player p);
       uncut = rw c.in-Pieces.is at c.requires.uncut;
       same_symbols = rw moved (same_symbols-last c.args.linked.now.found p (boards_after r c.args.player p)
           c.requires.same_symbols (after-symbols r c.args.player p));
