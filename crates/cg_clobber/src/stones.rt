@@ -11,7 +11,7 @@ use crate::capturing::{captures_of, moving_stones};
 use crate::putting::{CaptureWords, put_onward, put_toward};
 use cg_moves::words::with_bit;
 use cg_moves::{Board, Boards, Pieces, Player, Rules};
-use cg_pieces::{NeighbourRules, pieces, pieces_into};
+use cg_pieces::{NeighbourRules, pieces, pieces_into, pieces_of_all_into};
 use std::alloc::{AllocError, Global};
 
 /// The rules of Clobber. The symbols are `.` for an empty cell, `x` for a stone of Left and `o` for one of Right. A
@@ -148,6 +148,16 @@ impl Rules for Clobber {
         room: &mut Vec<Board>,
     ) -> Result<(), AllocError> {
         pieces_into(self, board, room)
+    }
+
+    fn pieces_of_all_into(
+        &self,
+        _alloc: Global,
+        boards: &[Board],
+        room: &mut Vec<Board>,
+        counts: &mut Vec<usize>,
+    ) -> Result<(), AllocError> {
+        pieces_of_all_into(self, boards, room, counts)
     }
 
     fn number(&self) -> u8 {

@@ -6,7 +6,7 @@ ghost use Rattle.cg_domineering.specs.Moves.{domineering, dominoes, fits, moves_
 use crate::fitting::{empty_cells, left_spots, right_spots, spots};
 use cg_moves::words::with_bit;
 use cg_moves::{Board, Boards, Pieces, Planes, Player, Rules, push};
-use cg_pieces::{NeighbourRules, pieces, pieces_into};
+use cg_pieces::{NeighbourRules, pieces, pieces_into, pieces_of_all_into};
 use std::alloc::{AllocError, Global};
 
 /// The rules of Domineering. The symbols are `.` for an empty cell and `#` for a filled one. Left fills two empty
@@ -116,6 +116,16 @@ impl Rules for Domineering {
         room: &mut Vec<Board>,
     ) -> Result<(), AllocError> {
         pieces_into(self, board, room)
+    }
+
+    fn pieces_of_all_into(
+        &self,
+        _alloc: Global,
+        boards: &[Board],
+        room: &mut Vec<Board>,
+        counts: &mut Vec<usize>,
+    ) -> Result<(), AllocError> {
+        pieces_of_all_into(self, boards, room, counts)
     }
 
     fn number(&self) -> u8 {

@@ -1,5 +1,5 @@
 -- Boards that are found among those that come after the starts of a walk.
-use Rattle.std.proofs.Common.{◌≡◌, ◌≤◌, true, inl, inr, List, [], ◌∷◌, ◌++◌, length, append_assoc, ap, sym, ◌∙◌, arith}
+use Rattle.std.proofs.Common.{◌≡◌, refl, ◌⊎◌, ◌≤◌, true, inl, inr, List, [], ◌∷◌, ◌++◌, length, append_assoc, ap, sym, ◌∙◌, arith}
 use Rattle.std.specs.List.{flat_map}
 use Rattle.std.proofs.lemmas.List.{append-nil}
 use Rattle.cg_moves.specs.Found.{SameSymbols}
@@ -32,22 +32,32 @@ kept-grows seen (x ∷ xs) =
 pub wider-kept : (seen xs : List Grid) → IsWider seen (kept seen xs)
 wider-kept seen xs n p m = let (more, e) = kept-grows seen xs in rw e (at-append seen more n p m)
 
--- boards more, where all have the same symbols
-pub same_symbols-more : (old xs all ps : List Grid) → SameSymbols (old ++ all) → ((q : Grid) → In q xs → In q all)
-    → ((q : Grid) → In q ps → In q all) → SameSymbols (kept old xs ++ ps)
-same_symbols-more old xs all ps h among here a b m n =
-    let go : (x : Grid) → In x (kept old xs ++ ps) → In x (old ++ all) = λ x k. elim (in-append x (kept old xs) ps k) [
-      | inl o ↦ elim (extended-among boards old xs x o) [
-        | inl there ↦ in-append_left x old all there
-        | inr one ↦ in-append_right x old all (among x one)
-      ]
-      | inr o ↦ in-append_right x old all (here x o)
-    ] in h a b (go a m) (go b n)
+-- boards that each have the symbols of one of some that all have the same
+pub same_symbols-from : (old new : List Grid) → SameSymbols old
+    → ((q : Grid) → In q new → (x : Grid) × In x old × (q.symbols ≡ x.symbols)) → SameSymbols new
+same_symbols-from old new h from p q m n =
+    let (x, i, e) = from p m in
+    let (y, j, f) = from q n in e ∙ h x y i j ∙ sym f
+
+-- so for others in the place of a board
+pub same_symbols-last : (found : List Grid) (p : Grid) (qs : List Grid) → SameSymbols (found ++ (p ∷ []))
+    → ((q : Grid) → In q qs → q.symbols ≡ p.symbols) → SameSymbols (found ++ qs)
+same_symbols-last found p qs h like = same_symbols-from (found ++ (p ∷ [])) (found ++ qs) h (λ q m. elim (in-append q found qs m) [
+  | inl o ↦ (q, in-append_left q found (p ∷ []) o, refl)
+  | inr o ↦ (p, in-append_right p found (p ∷ []) (inl refl), like q o)
+])
 
 pub same_symbols-kept : (old xs all : List Grid) (p : Grid) → SameSymbols (old ++ all) → ((q : Grid) → In q xs → In q all) → In p all
     → SameSymbols (kept old xs ++ (p ∷ []))
 same_symbols-kept old xs all p h among here =
-    same_symbols-more old xs all (p ∷ []) h among (λ q m. in_equal q p all (in_one q p m) here)
+    same_symbols-from (old ++ all) (kept old xs ++ (p ∷ [])) h (λ q m. (q, place q (in-append q (kept old xs) (p ∷ []) m), refl))
+  where
+    place : (q : Grid) → In q (kept old xs) ⊎ In q (p ∷ []) → In q (old ++ all)
+    place q (inl o) = elim (extended-among boards old xs q o) [
+      | inl there ↦ in-append_left q old all there
+      | inr one ↦ in-append_right q old all (among q one)
+    ]
+    place q (inr o) = in-append_right q old all (in_equal q p all (in_one q p o) here)
 
 -- ---- boards that come after the starts
 

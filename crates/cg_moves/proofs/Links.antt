@@ -1,5 +1,5 @@
 -- Parts by numbers, with what comes next after each.
-use Rattle.std.proofs.Common.{◌≡◌, refl, ℕ, zero, suc, ◌+◌, ◌-◌, ◌<◌, ◌≤◌, true, inl, inr, List, [], ◌∷◌, ◌++◌}
+use Rattle.std.proofs.Common.{◌≡◌, refl, ℕ, zero, suc, ◌+◌, ◌-◌, ◌<◌, ◌≤◌, ◌⊎◌, true, inl, inr, List, [], ◌∷◌, ◌++◌}
 use Rattle.std.proofs.Common.{length, length-append, map, get_or, take, drop, append_assoc, ap, sym, ◌∙◌, subst, arith}
 use Rattle.std.specs.Prelude.{All, IfOk, Result}
 use Rattle.std.specs.List.{flat_map}
@@ -12,20 +12,22 @@ use Rattle.cg_moves.specs.Found.{SameSymbols}
 use Rattle.cg_moves.specs.Grid.{Grid}
 use Rattle.cg_moves.specs.Graph.{IsAt, IsNext, StandAt}
 use Rattle.cg_moves.specs.Kept.{kept, one_more}
-use Rattle.cg_moves.specs.Linked.{AreLinked, CanLink, IsLinked, IsWider, NumberedAs}
+use Rattle.cg_moves.specs.Lawful.{ArePieces}
+use Rattle.cg_moves.specs.Linked.{AreLinked, AreUncut, CanLink, IsLinked, IsWider, NumberedAs}
 use Rattle.cg_moves.specs.Plays.{IsPlay}
-use Rattle.cg_moves.specs.Rules.{GameRules, In, boards_after, followers}
-use Rattle.cg_moves.specs.Walking.{AreFound, Walk, parts, play, reached}
-use Rattle.cg_moves.specs.Walks.{AreStarts}
-use Rattle.cg_moves.proofs.Broad.{IsAmong, found-among, found-has, found-kept, found-most, found-none, kept-grows, same_symbols-more, wider-kept}
+use Rattle.cg_moves.specs.Rules.{GameRules, In, boards_after, followers, pieces}
+use Rattle.cg_moves.specs.Walking.{AreFound, Walk, parts, play}
+use Rattle.cg_moves.proofs.Bounds.{follower-has}
+use Rattle.cg_moves.proofs.Broad.{IsAmong, among-same_symbols, found-among, found-has, found-kept, found-none, kept-grows}
+use Rattle.cg_moves.proofs.Broad.{same_symbols-from, wider-kept}
 use Rattle.cg_moves.proofs.Carried.{if_ok}
 use Rattle.cg_moves.proofs.Listed.{next-more}
-use Rattle.cg_moves.proofs.Members.{carry, in-flat_map, in_flat_mapped}
+use Rattle.cg_moves.proofs.Members.{carry, in-flat_map, in_equal, in_one}
 use Rattle.cg_moves.proofs.OnWalk.{next-parts}
-use Rattle.cg_form.proofs.Firsts.{extended-append, in-append_left, in-append_right}
-use Rattle.cg_moves.proofs.PlaceLemmas.{at-append, at-in, in-at, stand-append, stand-wider}
-use Rattle.cg_moves.proofs.Places.{in_read, take_next}
-use Rattle.cg_moves.proofs.PlayLemmas.{plays}
+use Rattle.cg_form.proofs.Firsts.{extended-among, extended-append, in-append, in-append_left, in-append_right, one_more-there}
+use Rattle.cg_moves.proofs.PlaceLemmas.{at-append, at-in, stand-append, stand-wider}
+use Rattle.cg_moves.proofs.Places.{take_next}
+use Rattle.cg_moves.proofs.PlayLemmas.{part-uncut, plays}
 use Rattle.cg_moves.proofs.PlayOrder.{all-each, reached-next, start-reached}
 use Rattle.cg_moves.proofs.Same.{boards}
 
@@ -162,13 +164,59 @@ module _ (cut : Grid → List Grid) (start found new : List Grid) (before now af
   parts-numbered = rw parts-one (numbered-more found new before now after (flat_map cut (take i xs)) own
       (λ m q k. rw e (wider-kept found own m q k)) are put)
 
-pub parts-same : (cut : Grid → List Grid) (start found own : List Grid) (xs : List Grid) (i : ℕ) (p : Grid) → i < length xs
-    → p ≡ get_or xs i p → found ≡ kept start (flat_map cut (take i xs)) → own ≡ cut p → SameSymbols (start ++ flat_map cut xs)
-    → SameSymbols (found ++ own)
-parts-same cut start found own xs i p low is all cuts h =
-    rw all (same_symbols-more start (flat_map cut (take i xs)) (flat_map cut xs) own h
-    (λ q m. let (x, k, o) = in-flat_map cut q (take i xs) m in in_flat_mapped cut q x xs (taken-in xs i x k) o)
-    (λ q m. in_flat_mapped cut q p xs (in_read xs i p low is) (carry q own (cut p) cuts m)))
+-- the pieces of boards with the symbols of those that were found
+pub all_pieces-same : (r : GameRules) → ArePieces r → (found xs : List Grid) → ((q : Grid) → In q xs → r.has q ≡ true)
+    → SameSymbols (found ++ xs) → SameSymbols (found ++ flat_map (pieces r) xs)
+all_pieces-same r each found xs has h = same_symbols-from (found ++ xs) (found ++ flat_map (pieces r) xs) h
+    (λ q m. elim (in-append q found (flat_map (pieces r) xs) m) [
+      | inl o ↦ (q, in-append_left q found xs o, refl)
+      | inr o ↦ (let (x, k, n) = in-flat_map (pieces r) q xs o in (x, in-append_right x found xs k, each.symbols x q (has x k) n))
+    ])
+
+-- before the next of the boards is cut: what was found is the old boards and pieces of those before
+module _ (r : GameRules) (each : ArePieces r) (old xs : List Grid) (has : (q : Grid) → In q xs → r.has q ≡ true) (found : List Grid)
+    (i : ℕ) (all : found ≡ kept old (flat_map (pieces r) (take i xs))) where
+  record FoundPiece (q : Grid) : Type 0 where
+    board : Grid
+    among : In board xs
+    piece : In q (pieces r board)
+
+  old_or_piece : (q : Grid) → In q found → In q old ⊎ FoundPiece q
+  old_or_piece q m = elim (extended-among boards old (flat_map (pieces r) (take i xs)) q (carry q found _ all m)) [
+    | inl there ↦ inl there
+    | inr one ↦ (let (x, k, o) = in-flat_map (pieces r) q (take i xs) one in inr (record {
+      board = x;
+      among = taken-in xs i x k;
+      piece = o;
+    }))
+  ]
+
+  pub pieces-uncut : AreUncut (pieces r) old → AreUncut (pieces r) found
+  pieces-uncut h q m = elim (old_or_piece q m) [
+    | inl there ↦ h q there
+    | inr one ↦ each.uncut one.board q (has one.board one.among) one.piece
+  ]
+
+  pub pieces-same : (p : Grid) → In p xs → SameSymbols (old ++ xs) → SameSymbols (found ++ (p ∷ []))
+  pieces-same p here h = same_symbols-from (old ++ xs) (found ++ (p ∷ [])) h (λ q m. elim (in-append q found (p ∷ []) m) [
+    | inl o ↦ elim (old_or_piece q o) [
+      | inl there ↦ (q, in-append_left q old xs there, refl)
+      | inr one ↦ (
+        one.board,
+        in-append_right one.board old xs one.among,
+        each.symbols one.board q (has one.board one.among) one.piece,
+      )
+    ]
+    | inr o ↦ (p, in-append_right p old xs here, ap (λ z. z.symbols) (in_one q p o))
+  ])
+
+-- a board that was found, and is its own only part, adds nothing
+module _ (cut : Grid → List Grid) (found : List Grid) (p : Grid) (n : ℕ) (at : IsAt found n p) (alone : cut p ≡ p ∷ []) where
+  pub known-found : found ≡ kept found (cut p)
+  known-found = sym (ap (kept found) alone ∙ one_more-there boards found p (at-in found n p at))
+
+  pub known-numbered : (before after : List ℕ) → after ≡ before ++ (n ∷ []) → NumberedAs found before after (cut p)
+  known-numbered before after e = rw alone (n ∷ [], e, (at, tt))
 
 -- ---- one board more is listed
 
@@ -176,6 +224,18 @@ module _ (w : Walk) (can : CanLink w) (found : List Grid) (nexts : List Adjacenc
     (x : IsLinked w found nexts counts numbers) (p : Grid) (at : IsAt found (length nexts) p) where
   pub link-lawful : IsPlay (play w)
   link-lawful = plays w.game can.lawful w.edges can.may
+
+  pub link-uncut : (mid : List Grid) → AreFound w mid → AreUncut (parts w) mid
+  link-uncut mid y q m =
+      let (s, k, l) = in-flat_map (play w).all q w.starts (found-among w mid y q m) in
+      all-each (play w) link-lawful (λ z. parts w z ≡ z ∷ []) (λ b z has own i.
+      let (f, j, part) = in-flat_map (parts w) z (followers w.game b) (carry z _ _ (next-parts w.game w.edges b) i) in
+      part-uncut w.game can.lawful w.edges can.may f z (follower-has w.game can.lawful.moves b f has j) part)
+      (suc ((play w).measure s)) s (omega arith) (can.starts.known s k).1 (can.uncut s k) q l
+
+  pub link-same : (mid : List Grid) → AreFound w mid → SameSymbols (mid ++ (p ∷ []))
+  link-same mid y = among-same_symbols w mid y link-lawful can.starts (p ∷ [])
+      (λ q m. in_equal q p _ (in_one q p m) (found-among w found x.among p (at-in found (length nexts) p at)))
 
   pub link-has : w.game.has p ≡ true
   link-has = found-has w found x.among link-lawful can.starts p (at-in found (length nexts) p at)

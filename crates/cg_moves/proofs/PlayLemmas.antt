@@ -7,11 +7,11 @@ use Rattle.cg_moves.specs.declared.edges.Edges.{Edges}
 use Rattle.cg_moves.specs.declared.edges.Edges.TheVariants.{Moves, Pieces}
 use Rattle.cg_moves.specs.declared.player.Player.{Player}
 use Rattle.cg_moves.specs.declared.player.Player.TheVariants.{Left, Right}
-use Rattle.cg_moves.specs.Grid.{Grid, with_cells}
+use Rattle.cg_moves.specs.Grid.{AreAlike, Grid, with_cells}
 use Rattle.cg_moves.specs.Kept.{kept}
 use Rattle.cg_moves.specs.Lawful.{ArePieces, IsLawful}
 use Rattle.cg_moves.specs.PieceReach.{all_piece_reached, piece_reach_of}
-use Rattle.cg_moves.specs.Plays.{IsPlay, MayGo, next_pieces, pieces_after, play_of}
+use Rattle.cg_moves.specs.Plays.{IsPlay, MayGo, next_pieces, parts_of, pieces_after, play_of}
 use Rattle.cg_moves.specs.Reach.{all_reached, reach_of}
 use Rattle.cg_moves.specs.Rules.{GameRules, In, boards_after, followers, pieces}
 use Rattle.cg_moves.specs.Walks.{AreStarts}
@@ -27,12 +27,26 @@ module _ {X Y : Type 0} where
   flat_map-twice {Z} f g (z ∷ zs) =
       flat_map-append f (g z) (flat_map g zs) ∙ ap (λ y. flat_map f (g z) ++ y) (flat_map-twice f g zs)
 
+pub after-symbols : (r : GameRules) (player : Player) (p q : Grid) → In q (boards_after r player p) → q.symbols ≡ p.symbols
+after-symbols r player p q m = let (cells, n, e) = in-map (with_cells p) q (r.moves player p) m in ap (λ z. z.symbols) e
+
+pub after-alike : (r : GameRules) (player : Player) (p : Grid) → AreAlike (boards_after r player p)
+after-alike r player p q s m n =
+    let (some, i, e) = in-map (with_cells p) q (r.moves player p) m in
+    let (others, j, f) = in-map (with_cells p) s (r.moves player p) n in rw e (rw f refl)
+
 module _ (r : GameRules) (lawful : IsLawful r) where
-  pub follower-symbols : (p q : Grid) → In q (followers r p) → q.symbols ≡ p.symbols
-  follower-symbols p q m =
-      let go : (player : Player) → In q (boards_after r player p) → q.symbols ≡ p.symbols = λ player k.
-      (let (cells, n, e) = in-map (with_cells p) q (r.moves player p) k in ap (λ z. z.symbols) e) in
-      elim (in-append q (boards_after r Left p) (boards_after r Right p) m) [ inl k ↦ go Left k | inr k ↦ go Right k ]
+  -- each part of a board is its own only part
+  pub part-uncut : (edges : Edges) → MayGo r edges → (p q : Grid) → r.has p ≡ true → In q (parts_of r edges p)
+      → parts_of r edges q ≡ q ∷ []
+  part-uncut Moves may p q has m = refl
+  part-uncut Pieces may p q has m = (lawful.cut may).each.uncut p q has m
+
+  follower-symbols : (p q : Grid) → In q (followers r p) → q.symbols ≡ p.symbols
+  follower-symbols p q m = elim (in-append q (boards_after r Left p) (boards_after r Right p) m) [
+    | inl k ↦ after-symbols r Left p q k
+    | inr k ↦ after-symbols r Right p q k
+  ]
 
   pub by-moves : IsPlay (play_of r Moves)
   by-moves = record {

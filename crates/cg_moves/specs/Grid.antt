@@ -2,6 +2,7 @@
 use Rattle.std.specs.Prelude.{◌≡◌, ℕ, ◌*◌, ◌<◌, ◌≤◌, ◌==◌, ◌&&◌, Bool, true, not, nat_le, nat_lt, List, [], ◌∷◌, length, slice_index, Contains}
 use Rattle.std.specs.List.{list_all, list_any}
 use Rattle.std.specs.Str.{bytes_eq}
+use Rattle.cg_form.specs.Firsts.{In}
 
 -- so many rows and columns, the symbols that a cell may have, and the cells, row by row
 pub record Grid : Type 0 where
@@ -45,6 +46,10 @@ with_cells p cells = record p { cells = cells }
 -- the second board is the first but for its cells
 abbrev pub IsLike : Grid → Grid → Type 0
 IsLike p q = q ≡ with_cells p q.cells
+
+-- the boards differ in their cells alone
+abbrev pub AreAlike : List Grid → Type 0
+AreAlike ps = (p q : Grid) → In p ps → In q ps → IsLike p q
 
 -- whether the two are one board
 abbrev pub is_same : Grid → Grid → Bool

@@ -6,7 +6,7 @@ use Rattle.cg_moves.specs.Grid.{Grid}
 use Rattle.cg_moves.specs.Graph.{IsAt, IsNext, StandAt}
 use Rattle.cg_moves.specs.Lawful.{IsLawful}
 use Rattle.cg_moves.specs.Plays.{MayGo}
-use Rattle.cg_moves.specs.Rules.{GameRules}
+use Rattle.cg_moves.specs.Rules.{GameRules, In}
 use Rattle.cg_moves.specs.Walking.{AreFound, Walk, parts, play}
 use Rattle.cg_moves.specs.Walks.{AreStarts}
 
@@ -33,8 +33,14 @@ pub record IsLinked (w : Walk) (found : List Grid) (nexts : List Adjacency) (cou
 abbrev pub IsLinking : Walk → Linked → Type 0
 IsLinking w s = IsLinked w s.found s.next.items s.counts.items s.numbers.items
 
--- the rules of a walk are lawful, and the boards that it begins with are boards of the game with the same symbols
+-- each of the boards is its own only part
+abbrev pub AreUncut : (Grid → List Grid) → List Grid → Type 0
+AreUncut cut ps = (p : Grid) → In p ps → cut p ≡ p ∷ []
+
+-- the rules of a walk are lawful, and the boards that it begins with are boards of the game with the same symbols, each its own
+-- only part
 pub record CanLink (w : Walk) : Type 0 where
   pub lawful : IsLawful w.game
   pub may : MayGo w.game w.edges
   pub starts : AreStarts (play w) w.starts
+  pub uncut : AreUncut (parts w) w.starts

@@ -88,6 +88,14 @@ impl Found {
             .find(key_hash, |number| has_key(boards, number, &key))
     }
 
+    /// The number of the board, if it was found. All have the same symbols.
+    pub(crate) fn find(&self, board: &Board) -> Option<usize>
+        requires { SameSymbols (self.now ++ (board.now ∷ [])) }
+        ensures { IfSome result (λ number. IsAt self.now number board.now) }
+    {
+        self.known(board, board.key().number())
+    }
+
     /// Puts a new board, whose key has this number, behind the others, and gives its number. All have the same symbols.
     #[inline(never)]
     fn put(&mut self, board: Board, key_hash: u32) -> Result<usize, AllocError>

@@ -1,10 +1,11 @@
 //! Parts by numbers: what play can come to, found in breadth, and what comes next after each part, listed once.
-ghost use Rattle.std.specs.Prelude.{◌≡◌, ◌+◌, ◌<◌, ◌≤◌, ◌++◌, true, IfOk, List, OnOk, drop, length, map, take, Err};
+ghost use Rattle.std.specs.Prelude.{◌≡◌, ◌+◌, ◌<◌, ◌≤◌, ◌∷◌, ◌++◌, [], true, IfOk, List, OnOk, drop, length, map, take, Err};
 ghost use Rattle.std.specs.List.{flat_map};
 ghost use Rattle.cg_moves.specs.Found.{SameSymbols};
-ghost use Rattle.cg_moves.specs.Grid.{Grid};
+ghost use Rattle.cg_moves.specs.Grid.{AreAlike, Grid};
 ghost use Rattle.cg_moves.specs.Kept.{kept};
-ghost use Rattle.cg_moves.specs.Linked.{CanLink, IsLinking, IsWider, NumberedAs};
+ghost use Rattle.cg_moves.specs.Lawful.{ArePieces, IsLawful};
+ghost use Rattle.cg_moves.specs.Linked.{AreUncut, CanLink, IsLinking, IsWider, NumberedAs};
 ghost use Rattle.cg_moves.specs.Plays.{MayGo, parts_of};
 ghost use Rattle.cg_moves.specs.Rules.{In, boards_after, cuts, pieces};
 ghost use Rattle.cg_moves.specs.Visiting.{CanVisit};
@@ -78,17 +79,55 @@ struct Room {
     pieces: Vec<Board>,
 }
 
-/// Numbers the pieces of the boards, and puts how many each board has behind the counts.
-fn number_pieces<R: Rules>(
+/// Where a player has so many moves, the boards that they lead to are looked for before they are cut: one that was
+/// found is its own only piece.
+const MANY_MOVES: usize = 24;
+
+/// Numbers the pieces of the board, and puts how many it has behind the counts. A board that was found isn't cut.
+#[inline(always)]
+fn number_cut<R: Rules>(
+    alloc: Global,
+    rules: &R,
+    board: &Board,
+    own: &mut Vec<Board>,
+    linked: &mut Linked,
+) -> Result<(), AllocError>
+    requires each { ArePieces (R.game rules.now) }
+    requires cuts { cuts (R.game rules.now) ≡ true }
+    requires has { (R.game rules.now).has board.now ≡ true }
+    requires uncut { AreUncut (pieces (R.game rules.now)) linked.old.found }
+    requires same_symbols { SameSymbols (linked.old.found ++ (board.now ∷ [])) }
+    ensures next { linked.new.next ≡ linked.old.next }
+    ensures found { IfOk result
+        (λ _. linked.new.found ≡ kept linked.old.found (pieces (R.game rules.now) board.now)) }
+    ensures numbers { IfOk result (λ _. NumberedAs linked.new.found linked.old.numbers.items linked.new.numbers.items
+        (pieces (R.game rules.now) board.now)) }
+    ensures counts { IfOk result (λ _. linked.new.counts.items
+        ≡ linked.old.counts.items ++ (length (pieces (R.game rules.now) board.now) ∷ [])) }
+{
+    if let Some(number) = linked.found.find(board) {
+        push(&mut linked.counts, 1)?;
+        return push(&mut linked.numbers, number);
+    }
+    rules.pieces_into(alloc, board, own)?;
+    push(&mut linked.counts, own.len())?;
+    number_all(alloc, &mut linked.found, own, &mut linked.numbers)
+}
+
+/// Numbers the pieces of the boards, and puts how many each board has behind the counts. Each is looked for before it
+/// is cut.
+fn number_each<R: Rules>(
     alloc: Global,
     rules: &R,
     boards: &[Board],
     own: &mut Vec<Board>,
     linked: &mut Linked,
 ) -> Result<(), AllocError>
-    requires has { (q : Grid) → In q boards.now → (R.game rules.now).has q ≡ true }
+    requires each { ArePieces (R.game rules.now) }
     requires cuts { cuts (R.game rules.now) ≡ true }
-    requires same_symbols { SameSymbols (linked.old.found ++ flat_map (pieces (R.game rules.now)) boards.now) }
+    requires has { (q : Grid) → In q boards.now → (R.game rules.now).has q ≡ true }
+    requires uncut { AreUncut (pieces (R.game rules.now)) linked.old.found }
+    requires same_symbols { SameSymbols (linked.old.found ++ boards.now) }
     ensures next { linked.new.next ≡ linked.old.next }
     ensures found { IfOk result
         (λ _. linked.new.found ≡ kept linked.old.found (flat_map (pieces (R.game rules.now)) boards.now)) }
@@ -98,11 +137,38 @@ fn number_pieces<R: Rules>(
         ≡ linked.old.counts.items ++ map (λ q. length (pieces (R.game rules.now) q)) boards.now) }
 {
     for board in boards {
-        rules.pieces_into(alloc, board, own)?;
-        push(&mut linked.counts, own.len())?;
-        number_all(alloc, &mut linked.found, own, &mut linked.numbers)?;
+        number_cut(alloc, rules, board, own, linked)?;
     }
     Ok(())
+}
+
+/// Numbers the pieces of the boards, and puts how many each board has behind the counts.
+fn number_pieces<R: Rules>(
+    alloc: Global,
+    rules: &R,
+    boards: &[Board],
+    room: &mut Vec<Board>,
+    linked: &mut Linked,
+) -> Result<(), AllocError>
+    requires each { ArePieces (R.game rules.now) }
+    requires cuts { cuts (R.game rules.now) ≡ true }
+    requires has { (q : Grid) → In q boards.now → (R.game rules.now).has q ≡ true }
+    requires alike { AreAlike boards.now }
+    requires uncut { AreUncut (pieces (R.game rules.now)) linked.old.found }
+    requires same_symbols { SameSymbols (linked.old.found ++ boards.now) }
+    ensures next { linked.new.next ≡ linked.old.next }
+    ensures found { IfOk result
+        (λ _. linked.new.found ≡ kept linked.old.found (flat_map (pieces (R.game rules.now)) boards.now)) }
+    ensures numbers { IfOk result (λ _. NumberedAs linked.new.found linked.old.numbers.items linked.new.numbers.items
+        (flat_map (pieces (R.game rules.now)) boards.now)) }
+    ensures counts { IfOk result (λ _. linked.new.counts.items
+        ≡ linked.old.counts.items ++ map (λ q. length (pieces (R.game rules.now) q)) boards.now) }
+{
+    if boards.len() >= MANY_MOVES {
+        return number_each(alloc, rules, boards, room, linked);
+    }
+    rules.pieces_of_all_into(alloc, boards, room, &mut linked.counts)?;
+    number_all(alloc, &mut linked.found, room, &mut linked.numbers)
 }
 
 /// Numbers the parts of the boards that the player's moves lead to, and counts them, board by board.
@@ -116,12 +182,11 @@ fn link_player<R: Rules>(
     room: &mut Room,
     linked: &mut Linked,
 ) -> Result<(), AllocError>
-    requires has { (R.game rules.now).has board.now ≡ true }
-    requires after { (q : Grid) → In q (boards_after (R.game rules.now) player board.now)
-        → (R.game rules.now).has q ≡ true }
+    requires lawful { IsLawful (R.game rules.now) }
     requires may { MayGo (R.game rules.now) edges }
-    requires same_symbols { SameSymbols (linked.old.found
-        ++ flat_map (parts_of (R.game rules.now) edges) (boards_after (R.game rules.now) player board.now)) }
+    requires has { (R.game rules.now).has board.now ≡ true }
+    requires uncut { AreUncut (parts_of (R.game rules.now) edges) linked.old.found }
+    requires same_symbols { SameSymbols (linked.old.found ++ (board.now ∷ [])) }
     ensures next { linked.new.next ≡ linked.old.next }
     ensures found { IfOk result (λ _. linked.new.found ≡ kept linked.old.found
         (flat_map (parts_of (R.game rules.now) edges) (boards_after (R.game rules.now) player board.now))) }

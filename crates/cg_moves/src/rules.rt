@@ -1,11 +1,24 @@
 //! The rules of games on boards.
-ghost use Rattle.std.specs.Prelude.{◌≡◌, ◌<◌, true, IfOk};
+ghost use Rattle.std.specs.Prelude.{◌≡◌, ◌<◌, ◌++◌, true, IfOk, length, map};
+ghost use Rattle.std.specs.List.{flat_map};
 ghost use Rattle.cg_moves.specs.Cutting.{cutting};
+ghost use Rattle.cg_moves.specs.Grid.{AreAlike, Grid};
 ghost use Rattle.cg_moves.specs.Lawful.{IsLawful};
-ghost use Rattle.cg_moves.specs.Rules.{GameRules, boards_after, cuts, pieces};
+ghost use Rattle.cg_moves.specs.Rules.{GameRules, In, boards_after, cuts, pieces};
 
+use crate::pushing::push;
 use crate::{Board, Boards, Pieces, Player};
 use std::alloc::{AllocError, Global};
+
+/// Puts equal boards behind the others.
+fn append(alloc: Global, boards: &[Board], room: &mut Vec<Board>) -> Result<(), AllocError>
+    ensures { IfOk result (λ _. room.new.items ≡ room.old.items ++ boards.now) }
+{
+    for board in boards {
+        push(room, board.copy(alloc)?)?;
+    }
+    Ok(())
+}
 
 /// The rules of a game, by what contracts see of them: which boards are boards of the game; the moves of each player on
 /// a board, by the cells that they lead to; a measure of boards; the game's number; and where the rules cut boards into
@@ -60,6 +73,33 @@ pub trait Rules {
         match self.pieces(alloc, board)? {
             Pieces::Cut(boards) => *room = boards.into_vec(),
             Pieces::Whole => {}
+        }
+        Ok(())
+    }
+
+    /// Where the rules cut, puts the pieces of the boards, board by board, into the room, in the place of the boards that
+    /// are there, and how many each board has behind the counts. Where they don't, nothing is said of the room and the
+    /// counts. The boards must be boards of the game that differ in their cells alone.
+    fn pieces_of_all_into(
+        &self,
+        alloc: Global,
+        boards: &[Board],
+        room: &mut Vec<Board>,
+        counts: &mut Vec<usize>,
+    ) -> Result<(), AllocError>
+        requires has { (q : Grid) → In q boards.now → (game self.now).has q ≡ true }
+        requires alike { AreAlike boards.now }
+        ensures pieces { cuts (game self.now) ≡ true
+            → IfOk result (λ _. room.new.items ≡ flat_map (pieces (game self.now)) boards.now) }
+        ensures counts { cuts (game self.now) ≡ true → IfOk result (λ _. counts.new.items
+            ≡ counts.old.items ++ map (λ q. length (pieces (game self.now) q)) boards.now) }
+    {
+        let mut own = Vec::new(alloc);
+        room.clear();
+        for board in boards {
+            self.pieces_into(alloc, board, &mut own)?;
+            push(counts, own.len())?;
+            append(alloc, &own, room)?;
         }
         Ok(())
     }

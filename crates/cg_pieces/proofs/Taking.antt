@@ -1,22 +1,32 @@
 -- The pieces of the sets that are taken already, from the first cell on.
-use Rattle.std.proofs.Common.{◌≡◌, ◌≢◌, ◌↔◌, refl, ℕ, zero, suc, ◌+◌, ◌-◌, ◌<◌, ◌≤◌, ◌^◌, inl, inr, List, ◌++◌, filter, length, map, ap, ◌∙◌, arith, bit_and}
+use Rattle.std.proofs.Common.{◌≡◌, ◌≢◌, ◌↔◌, refl, ℕ, zero, suc, ◌+◌, ◌-◌, ◌*◌, ◌%◌, ◌<◌, ◌≤◌, ◌^◌, ◌==◌, ◌&&◌, nat_lt, sym, inl, inr, List, [], rules, ◌++◌, filter, length, map, ap, ◌∙◌, arith, bit_and}
 use Rattle.std.specs.Int.{bit_at}
 use Rattle.std.specs.Int.Count.{count_trailing_zeros}
 use Rattle.std.proofs.lemmas.Bool.Decides.{leb_tells}
 use Rattle.std.proofs.lemmas.Nat.{and_le_l}
-use Rattle.cg_moves.specs.Grid.{Grid}
+use Rattle.cg_moves.specs.Grid.{Grid, IsGrid, IsLike}
 use Rattle.cg_moves.specs.Rising.{counted}
+use Rattle.cg_moves.specs.Words.{Marks}
 use Rattle.cg_pieces.specs.declared.field.Field.{Field}
 use Rattle.cg_pieces.specs.Boxes.{cropped}
 use Rattle.cg_pieces.specs.Cells.Linked.{here}
 use Rattle.cg_pieces.specs.Moving.{AreMoving, piece_at}
-use Rattle.cg_pieces.specs.Neighbours.{IsNeighbours, Neighbours, are_joined, is_first}
+use Rattle.cg_pieces.specs.Neighbours.{IsNeighbours, Neighbours, are_joined, is_first, is_piece_cell}
 use Rattle.cg_pieces.specs.Words.{AreLeft, IsFieldOf, IsTaken, JoinedIn}
 use Rattle.cg_pieces.proofs.FirstCells.{none-more, one-more}
 use Rattle.cg_pieces.proofs.GrowingSets.{and-parts, bit-below, not-zero, other_bits}
 use Rattle.cg_pieces.proofs.LastBits.{first-first, first-one}
 use Rattle.cg_pieces.proofs.NeighbourSets.{piece-cell-below, so-joined}
 use Rattle.cg_pieces.proofs.TakenSets.{left-next, left-same, none-first, not-first, open-left, taken-set}
+
+-- boards that differ in their cells alone have the same cells in the first column
+pub alike-first : (p q : Grid) (word : ℕ) → IsLike p q → IsGrid p → IsGrid q
+    → Marks word (λ i. nat_lt i (length p.cells) && (i % p.columns == 0))
+    → Marks word (λ i. nat_lt i (length q.cells) && (i % q.columns == 0))
+alike-first p q word like one other h i =
+    let columns : q.columns ≡ p.columns = ap (λ z. z.columns) like in
+    let size : length q.cells ≡ length p.cells = other.size ∙ ap (λ z. z.rows * z.columns) like ∙ sym one.size in
+    rw columns (rw size (h i))
 
 module _ (n : Neighbours) (p : Grid) where
   -- the pieces of the sets whose first cells come before this one
@@ -35,6 +45,14 @@ module _ (n : Neighbours) (p : Grid) where
     pub to : IsTakenTo boards left end
 
 module _ (n : Neighbours) (laws : IsNeighbours n) (p : Grid) where
+  -- where none is taken, all cells that form pieces are left
+  pub taken-none : (cells : ℕ) → Marks cells (is_piece_cell n p) → AreTaken n p [] cells
+  taken-none cells marks = record {
+    end = 0;
+    inside = omega arith;
+    to = record { boards_are = refl; left_are = search rules };
+  }
+
   -- cells that aren't left are passed over
   passed : (boards : List Grid) (left end : ℕ) → IsTakenTo n p boards left end → ¬ (bit_at left end ≡ 1) → IsTakenTo n p boards left (end + 1)
   passed boards left end is none = record {

@@ -7,5 +7,5 @@ mod frame;
 pub mod laws;
 mod rules;
 
-pub use cutting::{pieces, pieces_into};
+pub use cutting::{pieces, pieces_into, pieces_of_all_into};
 pub use rules::NeighbourRules;

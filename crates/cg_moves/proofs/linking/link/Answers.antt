@@ -6,10 +6,9 @@ use Rattle.cg_moves.specs.Linked.{IsWider}
 use Rattle.cg_moves.specs.Plays.{parts_of}
 use Rattle.cg_moves.specs.Rules.{boards_after}
 use Rattle.cg_moves.specs.Walking.{walk_of}
-use Rattle.cg_moves.proofs.Bounds.{after-has}
-use Rattle.cg_moves.proofs.Broad.{among-same_symbols, found-kept}
+use Rattle.cg_moves.proofs.Broad.{found-kept}
 use Rattle.cg_moves.proofs.Carried.{ok_any, ok_is}
-use Rattle.cg_moves.proofs.Links.{lefts-among, link-has, link-lawful, linking-done, number-at, rights-among, wider-twice}
+use Rattle.cg_moves.proofs.Links.{lefts-among, link-has, link-same, link-uncut, linking-done, number-at, wider-twice}
 use Rattle.cg_moves.proofs.linking.link.Goals as goal
 
 pub link_player-requires : goal.link_player-requires
@@ -21,18 +20,17 @@ link_player-requires g c =
     let n : c.len.result ≡ length s.next.items = omega arith in
     let at = number-at s.found s.next.items c.len.result p c.board.result.now n (ok_is p c.board.result.now c.in_ok-board.ensures)
     c.board.ensures in
+    let can = c.requires.1.0 in
     record {
-      has = link-has w c.requires.1.0 s.found s.next.items s.counts.items s.numbers.items x p at;
-      after = λ q m. after-has (g.R.Rules.game c.args.rules.now) c.requires.1.0.lawful.moves Left p q
-          (link-has w c.requires.1.0 s.found s.next.items s.counts.items s.numbers.items x p at) m;
-      may = c.requires.1.0.may;
-      same_symbols = among-same_symbols w s.found x.among (link-lawful w c.requires.1.0 s.found s.next.items s.counts.items
-          s.numbers.items x p at) c.requires.1.0.starts _
-          (lefts-among w c.requires.1.0 s.found s.next.items s.counts.items s.numbers.items x p at);
+      lawful = can.lawful;
+      may = can.may;
+      has = link-has w can s.found s.next.items s.counts.items s.numbers.items x p at;
+      uncut = link-uncut w can s.found s.next.items s.counts.items s.numbers.items x p at s.found x.among;
+      same_symbols = link-same w can s.found s.next.items s.counts.items s.numbers.items x p at s.found x.among;
     }
 
-pub link_player-requires-2-clause-has : goal.link_player-requires-2-clause-has
-link_player-requires-2-clause-has g c =
+pub link_player-requires-2 : goal.link_player-requires-2
+link_player-requires-2 g c =
     let w = walk_of (g.R.Rules.game c.args.rules.now) c.args.edges g.starts in
     let s = c.args.linked.now in
     let x = c.requires.1.1.0 in
@@ -40,34 +38,17 @@ link_player-requires-2-clause-has g c =
     let n : c.len.result ≡ length s.next.items = omega arith in
     let at = number-at s.found s.next.items c.len.result p c.board.result.now n (ok_is p c.board.result.now c.in_ok-board.ensures)
     c.board.ensures in
-    link-has w c.requires.1.0 s.found s.next.items s.counts.items s.numbers.items x p at
-
-pub link_player-requires-2-clause-after : goal.link_player-requires-2-clause-after
-link_player-requires-2-clause-after g c q m =
-    let w = walk_of (g.R.Rules.game c.args.rules.now) c.args.edges g.starts in
-    let s = c.args.linked.now in
-    let x = c.requires.1.1.0 in
-    let p = c.in_ok-board.board in
-    let n : c.len.result ≡ length s.next.items = omega arith in
-    let at = number-at s.found s.next.items c.len.result p c.board.result.now n (ok_is p c.board.result.now c.in_ok-board.ensures)
-    c.board.ensures in
-    after-has (g.R.Rules.game c.args.rules.now) c.requires.1.0.lawful.moves Right p q
-    (link-has w c.requires.1.0 s.found s.next.items s.counts.items s.numbers.items x p at) m
-
-pub link_player-requires-2-clause-same_symbols : goal.link_player-requires-2-clause-same_symbols
-link_player-requires-2-clause-same_symbols g c =
-    let w = walk_of (g.R.Rules.game c.args.rules.now) c.args.edges g.starts in
-    let s = c.args.linked.now in
-    let x = c.requires.1.1.0 in
-    let p = c.in_ok-board.board in
-    let n : c.len.result ≡ length s.next.items = omega arith in
-    let at = number-at s.found s.next.items c.len.result p c.board.result.now n (ok_is p c.board.result.now c.in_ok-board.ensures)
-    c.board.ensures in
+    let can = c.requires.1.0 in
     let mid = c.link_player.new.linked.found in
-    among-same_symbols w mid (found-kept w s.found x.among _ mid c.in_ok-link_player.ensures.found
-    (lefts-among w c.requires.1.0 s.found s.next.items s.counts.items s.numbers.items x p at))
-    (link-lawful w c.requires.1.0 s.found s.next.items s.counts.items s.numbers.items x p at) c.requires.1.0.starts _
-    (rights-among w c.requires.1.0 s.found s.next.items s.counts.items s.numbers.items x p at)
+    let among = found-kept w s.found x.among _ mid c.in_ok-link_player.ensures.found (lefts-among w can s.found s.next.items
+    s.counts.items s.numbers.items x p at) in
+    record {
+      lawful = can.lawful;
+      may = can.may;
+      has = link-has w can s.found s.next.items s.counts.items s.numbers.items x p at;
+      uncut = link-uncut w can s.found s.next.items s.counts.items s.numbers.items x p at mid among;
+      same_symbols = link-same w can s.found s.next.items s.counts.items s.numbers.items x p at mid among;
+    }
 
 pub returns-clause-linking : goal.returns-clause-linking
 returns-clause-linking g c =

@@ -5,17 +5,36 @@ use Rattle.cg_moves.specs.Kept.{kept}
 use Rattle.cg_moves.specs.Linked.{NumberedAs}
 use Rattle.cg_moves.specs.Plays.{parts_of}
 use Rattle.cg_moves.specs.Rules.{boards_after, pieces}
+use Rattle.cg_moves.proofs.Bounds.{after-has}
+use Rattle.cg_moves.proofs.Broad.{same_symbols-last}
 use Rattle.cg_moves.proofs.Carried.{if_ok, ok_any}
+use Rattle.cg_moves.proofs.Members.{carry}
 use Rattle.cg_moves.proofs.OnWalk.{whole}
+use Rattle.cg_moves.proofs.PlayLemmas.{after-alike, after-symbols}
 use Rattle.cg_moves.proofs.linking.link_player.Goals as goal
 
 pub number_all-requires : goal.number_all-requires
 number_all-requires g c =
-    rw (c.deref-in-Moves.ensures.value ∙ c.in_ok-moves_into.ensures ∙ whole _) (rw c.in-Moves.is at c.requires.same_symbols)
+    let r = g.R.Rules.game c.args.rules.now in
+    let p = c.args.board.now in
+    rw (c.deref-in-Moves.ensures.value ∙ c.in_ok-moves_into.ensures) (same_symbols-last c.args.linked.now.found p
+    (boards_after r c.args.player p) c.requires.same_symbols (after-symbols r c.args.player p))
 
-pub number_pieces-requires-clause-same_symbols : goal.number_pieces-requires-clause-same_symbols
-number_pieces-requires-clause-same_symbols g c =
-    rw (c.deref-in-Pieces.ensures.value ∙ c.in_ok-moves_into.ensures) (rw c.in-Pieces.is at c.requires.same_symbols)
+pub number_pieces-requires : goal.number_pieces-requires
+number_pieces-requires g c =
+    let r = g.R.Rules.game c.args.rules.now in
+    let p = c.args.board.now in
+    let moved = c.deref-in-Pieces.ensures.value ∙ c.in_ok-moves_into.ensures in
+    let cuts = rw c.in-Pieces.is at c.requires.may in
+    record {
+      each = (c.requires.lawful.cut cuts).each;
+      cuts = cuts;
+      has = λ q m. after-has r c.requires.lawful.moves c.args.player p q c.requires.has (carry q _ _ moved m);
+      alike = rw moved (after-alike r c.args.player p);
+      uncut = rw c.in-Pieces.is at c.requires.uncut;
+      same_symbols = rw moved (same_symbols-last c.args.linked.now.found p (boards_after r c.args.player p)
+          c.requires.same_symbols (after-symbols r c.args.player p));
+    }
 
 pub returns-in_ok-count_ones-in-Moves-clause-found : goal.returns-in_ok-count_ones-in-Moves-clause-found
 returns-in_ok-count_ones-in-Moves-clause-found g c =

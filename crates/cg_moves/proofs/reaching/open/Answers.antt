@@ -13,6 +13,7 @@ open_all-requires g c κs within = (
       may = tt;
       starts = one_start (g.R.Rules.game c.args.rules.now) c.lawful.ensures
           c.args.start.now c.in_ok-starts.starts.items c.requires c.in_ok-starts.ensures;
+      uncut = λ q m. refl;
     },
   ),
 )

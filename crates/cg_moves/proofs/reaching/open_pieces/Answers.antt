@@ -1,6 +1,7 @@
 use Rattle.std.proofs.Common.{refl}
 use Rattle.cg_moves.proofs.PlayLemmas.{piece_reach-all, piece_starts}
 use Rattle.cg_moves.proofs.Carried.{reach-along}
+use Rattle.cg_moves.proofs.Members.{carry}
 use Rattle.cg_moves.proofs.reaching.open_pieces.Goals as goal
 
 pub open_all-requires : goal.open_all-requires
@@ -15,6 +16,7 @@ open_all-requires g c κs within =
           may = c.requires.cuts;
           starts = rw c.in_ok-starts.ensures (piece_starts r lawful (lawful.cut c.requires.cuts).each
               c.args.start.now c.requires.has);
+          uncut = λ q m. (lawful.cut c.requires.cuts).each.uncut c.args.start.now q c.requires.has (carry q _ _ c.in_ok-starts.ensures m);
         },
       ),
     )

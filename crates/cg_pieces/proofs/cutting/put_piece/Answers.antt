@@ -27,6 +27,6 @@ returns g c =
     let is = piece-is n laws c.args.board.now c.args.cell c.args.set c.args.moving c.requires.set c.requires.moving
     c.if-set-moving-eq0.false (omega (arith, c.ranges.set.fits)) in
     let blank = index-shows n c.args.board.now c.blank_index-blank.result c.requires.symbols c.blank_index-blank.ensures in
-    c.in_ok-push.ensures.items
+    c.in_ok-push.ensures
     ∙ piece-at n laws c.args.board.now c.args.cell c.args.set c.args.moving c.requires.set c.requires.moving
     c.args.boards.now.items _ c.crop-piece.result is blank.shows c.crop-piece.ensures
