@@ -5,7 +5,7 @@ use Rattle.cg_reading.specs.Pieces.{Piece, Then, Or, Many, Made, Longest}
 use Rattle.cg_reading.specs.Tokens.{blanks, behind_blanks, with_blanks}
 use Rattle.cg_reading.proofs.Spelled.{then_as}
 use Rattle.cg_grammar.specs.Found.{first}
-use Rattle.cg_grammar.proofs.LeastFault.{none_some}
+use Rattle.std.proofs.lemmas.Option.{none-some}
 use Rattle.cg_grammar.proofs.InOrder.{AllLie, first_cases}
 use Rattle.cg_reading.proofs.Spelled.{made_as}
 
@@ -35,7 +35,7 @@ module _ (d : ℕ) where
     pub from : (i : ℕ) (v : A) (text : List ℕ) → R i v text → Before i (f v) → Q i v text
 
   pub same : {A : Type 0} {R : Piece A} → Cleans (λ v. None) R R
-  same = record { to = λ i v text is. is; avoids = λ i v text is e. none_some e; from = λ i v text is l. is }
+  same = record { to = λ i v text is. is; avoids = λ i v text is e. none-some _ e; from = λ i v text is l. is }
 
   -- ---- pieces of pieces
 
@@ -116,7 +116,7 @@ module _ (d : ℕ) where
     many_to (v ∷ vs) i text is = then_as is.before is.behind (r.to i v is.before is.first) (many_to vs (i + length is.before) is.behind is.second) is.spelled
 
     many_avoids : (vs : List A) (i : ℕ) (text : List ℕ) → Many Q i vs text → F vs ≡ Some d → ⊥
-    many_avoids [] i text is e = none_some (sym none ∙ e)
+    many_avoids [] i text is e = none-some _ (sym none ∙ e)
     many_avoids (v ∷ vs) i text is e = by (first_cases (f v) (F vs) d (sym (more v vs) ∙ e)) (many_avoids vs (i + length is.before) is.behind is.second)
       where
         by : (f v ≡ Some d) ⊎ (F vs ≡ Some d) → (F vs ≡ Some d → ⊥) → ⊥

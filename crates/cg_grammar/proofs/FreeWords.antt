@@ -1,8 +1,9 @@
 -- Words that are no names go on to names.
-use Rattle.std.proofs.Common.{◌≡◌, ℕ, ◌≤◌, Bool, true, false, ◌||◌, not, List, [], ◌∷◌, ◌++◌, length, refl, ap, sym, subst, ◌∙◌, arith}
+use Rattle.std.proofs.Common.{◌≡◌, ℕ, ◌≤◌, Bool, true, false, ◌||◌, List, [], ◌∷◌, ◌++◌, length, refl, ap, sym, subst, ◌∙◌, arith}
 use Rattle.std.specs.Prelude.{codes}
 use Rattle.std.specs.List.{list_all, list_any}
 use Rattle.std.specs.Str.{bytes_eq}
+use Rattle.std.proofs.lemmas.Bool.{not-false}
 use Rattle.std.proofs.lemmas.Slice.Eq.{bytes_eq-Decides}
 use Rattle.cg_reading.specs.Bytes.{Class, has}
 use Rattle.cg_reading.specs.Pieces.{Few}
@@ -71,9 +72,5 @@ all_longer = (
   ),
 )
 
-not_true : (b : Bool) → not b ≡ false → b ≡ true
-not_true true e = refl
-not_true false e = absurd (let f : true ≡ false = e in cc)
-
 pub other_name : (i : ℕ) (w text : List ℕ) → lettered i w text → is_free w ≡ false → Goes_on is_free lettered i text
-other_name i w text m h = among Longer w question_words all_longer (not_true (list_any (bytes_eq w) question_words) h) i text m
+other_name i w text m h = among Longer w question_words all_longer (not-false (list_any (bytes_eq w) question_words) h) i text m

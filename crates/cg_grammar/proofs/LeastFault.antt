@@ -1,15 +1,10 @@
 -- The fault of a brace is the least of its faults, and the parts of a brace stand one behind the other.
 use Rattle.std.proofs.Common.{◌≡◌, ℕ, suc, ◌≤◌, ◌<◌, ◌⊎◌, inl, inr, Bool, true, false, cond, List, [], ◌∷◌, ◌++◌, Option, Some, None, refl, subst, arith}
+use Rattle.std.proofs.lemmas.Option.{none-some, same_Some}
 use Rattle.cg_grammar.specs.Found.{Found, first}
 use Rattle.cg_grammar.specs.Braces.{Run_side, repeats, side_fault, runs_fault, row_fault}
 use Rattle.cg_grammar.specs.Splitting.{IsFault, IsLeast, IsRepeatAt, IsRunsFault, IsSideFault, RowLies, RunsLie, SideLies}
 use Rattle.cg_grammar.proofs.RepeatedRuns.{repeats_exactly}
-
-pub some_same : (c d : ℕ) → Some c ≡ Some d → c ≡ d
-some_same c d e = cc
-
-pub none_some : {c : ℕ} → None ≡ Some c → ⊥
-none_some e = cc
 
 -- ---- the least of two lots of columns, where none of the second is before one of the first
 
@@ -32,8 +27,8 @@ least_first P Q None None l m before = λ d k. by d k
 
 -- the fault of one expression
 least_one : (o : Option ℕ) → IsLeast (λ c. o ≡ Some c) o
-least_one (Some c) = (refl, λ d e. omega (arith, some_same c d e))
-least_one None = λ d e. none_some e
+least_one (Some c) = (refl, λ d e. omega (arith, same_Some c d e))
+least_one None = λ d e. none-some _ e
 
 least_repeat : (earlier : List ℕ) (r : Run_side) → IsLeast (IsRepeatAt earlier r) (cond (repeats r.bars false earlier) (Some r.column) None)
 least_repeat earlier r = by (repeats r.bars false earlier) refl

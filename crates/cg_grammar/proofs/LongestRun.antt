@@ -2,15 +2,13 @@
 use Rattle.std.proofs.Common.{◌≡◌, ℕ, zero, suc, ◌≤◌, ◌<◌, ◌⊎◌, inl, inr, Bool, true, false, cond, ◌||◌, List, []}
 use Rattle.std.proofs.Common.{◌∷◌, ◌++◌, length, refl, ap, sym, subst, ◌∙◌, append_assoc, append-nil, arith}
 use Rattle.std.specs.Prelude.{ltb, ◌==◌}
-use Rattle.std.proofs.lemmas.Bool.{ne_eqb, eq-eqb, ltb-true, ltb-false, lt-ltb, le-ltb}
+use Rattle.std.proofs.Math.Bool.{or-true}
+use Rattle.std.proofs.lemmas.Bool.{true≢false, ne_eqb, eq-eqb, ltb-true, ltb-false, lt-ltb, le-ltb}
 use Rattle.cg_query.specs.Tree.{Tree, braces}
 use Rattle.cg_grammar.specs.Found.{Found}
 use Rattle.cg_grammar.specs.Braces.{Run_side, Whole, Parts, repeats, cut_from, part_of, only_tree, row_tree}
 use Rattle.cg_grammar.specs.Splitting.{AllShorter, AllWithin, IsSplit, alone, split}
 use Rattle.cg_grammar.proofs.Parts.{part_here, part_none}
-
-true_is_not : true ≡ false → ⊥
-true_is_not e = cc
 
 less_not : (a b : ℕ) → a < b → a ≡ b → ⊥
 less_not a b h e = omega arith
@@ -21,10 +19,6 @@ le_split a b h = tells (ltb a b) refl
     tells : (t : Bool) → ltb a b ≡ t → (a < b) ⊎ (a ≡ b)
     tells true e = inl (ltb-true a b e)
     tells false e = inr (omega (arith, ltb-false a b e))
-
-pub or_true : (a : Bool) → (a || true) ≡ true
-or_true true = refl
-or_true false = refl
 
 -- ---- runs that repeat none
 
@@ -50,7 +44,7 @@ seen_stays : (n : ℕ) (ms : List ℕ) → AllBelow n ms → repeats n true ms �
 seen_stays n [] h = refl
 seen_stays n (m ∷ ms) h =
     let small : m ≤ n = omega (arith, h.0) in
-    rw (le-ltb n m small, or_true (n == m)) (seen_stays n ms h.1)
+    rw (le-ltb n m small, or-true (n == m)) (seen_stays n ms h.1)
 
 pub at_equal : (n : ℕ) (seen : Bool) → repeats n seen (n ∷ []) ≡ true
 at_equal n seen =
@@ -105,7 +99,7 @@ behind_longest n E L (s ∷ rest) b w f =
     by_length (inr e) further =
         let seen : repeats n false ((E ++ n ∷ []) ++ L) ≡ true =
         rw (before_rest n, at_equal n (repeats n false E)) (seen_stays n L b) in
-        absurd (true_is_not (sym seen ∙ ap (λ (m : ℕ). repeats m false ((E ++ n ∷ []) ++ L)) (sym e) ∙ f.0))
+        absurd (true≢false (sym seen ∙ ap (λ (m : ℕ). repeats m false ((E ++ n ∷ []) ++ L)) (sym e) ∙ f.0))
     by_length (inl h) further =
         let cleared : repeats s.bars false ((E ++ n ∷ []) ++ L) ≡ repeats s.bars false L =
         rw (before_rest s.bars, at_longer s.bars n (repeats s.bars false E) h) refl in

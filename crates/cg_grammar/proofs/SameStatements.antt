@@ -5,6 +5,7 @@ use Rattle.std.specs.Prelude.{codes, map}
 use Rattle.std.specs.List.{list_all, list_any}
 use Rattle.std.specs.Str.{bytes_eq}
 use Rattle.std.proofs.lemmas.Slice.Eq.{bytes_eq-Decides}
+use Rattle.std.proofs.lemmas.Bool.{not-true}
 use Rattle.cg_reading.specs.Bytes.{Class, has}
 use Rattle.cg_reading.specs.Pieces.{Piece, Then, Or, Made, Word}
 use Rattle.cg_reading.specs.Tokens.{blanks, gap, with_blanks}
@@ -137,10 +138,6 @@ none_among w (k ∷ ks) h = chosen (bytes_eq w k.0) (none_among w ks) h
     chosen true f e = absurd (let g : true ≡ false = e in cc)
     chosen false f e = f e
 
-not_false : (b : Bool) → not b ≡ true → b ≡ false
-not_false true e = absurd (let f : false ≡ true = e in cc)
-not_false false e = refl
-
 -- ---- from the grammar
 
 module _ (format : Format) (i : ℕ) (a : Stated) (text : List ℕ) where
@@ -162,7 +159,7 @@ name_to i a text m =
     let y = m.is.behind in
     let n = m.is.second in
     let inner : g.behind_word formats.Two w Of_name (i + length x) a y = made_as (tt {0}, m.made_of.1.1.1.1) (then_as (n.before ++ (n.second.before ++ n.second.second.before)) n.second.second.behind (made_is (m.made_of.1.0, (tt {0}, m.made_of.1.1.1.0)) (then_is n.before (n.second.before ++ n.second.second.before) n.first (then_is n.second.before n.second.second.before (refl, n.second.first.1) n.second.second.first))) (moved (i + length x) n.before n.second.before n.second.second.before m.made_of.1.1.1.1 n.second.second.behind n.second.second.second) (all y n.before n.second.before n.second.second.before n.behind n.second.behind n.second.second.behind n.spelled n.second.spelled n.second.second.spelled)) m.same in
-    let free : kind_of w ≡ Of_name = none_among w kinds (not_false (list_any (bytes_eq w) s.question_words) m.is.first.holds) in
+    let free : kind_of w ≡ Of_name = none_among w kinds (not-true (list_any (bytes_eq w) s.question_words) m.is.first.holds) in
     record {
       told = (w, kind_of w);
       before = x;

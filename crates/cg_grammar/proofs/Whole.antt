@@ -2,12 +2,14 @@
 use Rattle.std.proofs.Common.{◌≡◌, ◌≢◌, ℕ, suc, ◌+◌, ◌-◌, ◌≤◌, ◌⊎◌, inl, inr, Bool, true, false, cond, ◌&&◌, List, []}
 use Rattle.std.proofs.Common.{◌∷◌, ◌++◌, length, Option, Some, None, Result, Ok, Err, refl, ap, sym, subst, ◌∙◌, arith}
 use Rattle.std.specs.List.{list_all}
+use Rattle.std.proofs.lemmas.Option.{none-some, same_Some}
 use Rattle.std.proofs.lemmas.Bool.{and_parts, and_from, false_from_ne_true}
 use Rattle.cg_reading.specs.Bytes.{has, Begins}
 use Rattle.cg_reading.specs.Tokens.{blank}
 use Rattle.cg_reading.specs.Readers.{skipped}
 use Rattle.cg_reading.specs.Column.{Stops}
 use Rattle.cg_reading.proofs.Sets.{apart_has}
+use Rattle.cg_reading.proofs.Skip.{same_head, some_item}
 use Rattle.cg_reading.proofs.WholeLines.{whole_takes, whole_stops, whole_left, whole_once}
 use Rattle.cg_query.specs.Tree.{Tree, Question, Statement, asks, defines}
 use Rattle.cg_query.specs.declared.format.Format.{Format}
@@ -67,31 +69,19 @@ pub record IsOther (text : List ℕ) : Type 0 where
   pub rest : skipped blank text ≡ first ∷ behind
   pub other : first ≢ 35
 
-some_not_none : (b : ℕ) (rest : List ℕ) → b ∷ rest ≡ [] → ⊥
-some_not_none b rest e = cc
-
-heads : (a b : ℕ) (x y : List ℕ) → a ∷ x ≡ b ∷ y → a ≡ b
-heads a b x y e = cc
-
 pub not_blank : (text : List ℕ) (b : ℕ) (rest : List ℕ) → skipped blank text ≡ b ∷ rest → is_blank_line text ≡ false
-not_blank text b rest e = false_from_ne_true (is_blank_line text) (λ (h : is_blank_line text ≡ true). some_not_none b rest (sym e ∙ all_skipped text h))
+not_blank text b rest e = false_from_ne_true (is_blank_line text) (λ (h : is_blank_line text ≡ true). some_item b rest (sym e ∙ all_skipped text h))
 
 pub not_comment : (text : List ℕ) (b : ℕ) (rest : List ℕ) → skipped blank text ≡ b ∷ rest → b ≢ 35 → IsComment text → ⊥
-not_comment text b rest e n is = n (heads b 35 rest is.behind (sym e ∙ comment_skipped text is))
+not_comment text b rest e n is = n (same_head b 35 rest is.behind (sym e ∙ comment_skipped text is))
 
 pub blank_no_comment : (text : List ℕ) → skipped blank text ≡ [] → IsComment text → ⊥
-blank_no_comment text e is = some_not_none 35 is.behind (sym (comment_skipped text is) ∙ e)
+blank_no_comment text e is = some_item 35 is.behind (sym (comment_skipped text is) ∙ e)
 
 -- ---- what a line states
 
 abbrev pub stated_as : Statement → Option ℕ → Stated
 stated_as s o = record { statement = s; fault = o }
-
-some_none : (n : ℕ) → Some n ≡ None → ⊥
-some_none n e = cc
-
-same_some : (c d : ℕ) → Some c ≡ Some d → c ≡ d
-same_some c d e = cc
 
 pub stops_once : {P : List ℕ → Type 0} (text : List ℕ) (c d : ℕ) → Stops P text c → Stops P text d → c ≡ d
 stops_once text c d s t = omega (arith, s.at, t.at, t.longest s.before s.behind s.split s.begun, s.longest t.before t.behind t.split t.begun)
@@ -122,7 +112,7 @@ module _ (format : Format) (text : List ℕ) where
   pub faulty_is : (s : Statement) (c : ℕ) → read_at format text ≡ Ok (stated_as s (Some c)) → ((p : Statement) → ¬ ReadsIn format text p) × IsColumnIn format text c
   faulty_is s c h =
       let is = found (stated_as s (Some c)) h in
-      (λ p r. some_none c (ap (λ (a : Stated). a.fault) (one_stated (stated_as s (Some c)) (stated_as p None) is r)), inr (s, is))
+      (λ p r. none-some c (sym (ap (λ (a : Stated). a.fault) (one_stated (stated_as s (Some c)) (stated_as p None) is r))), inr (s, is))
 
   -- and so is one on which reading stops
   pub stops_of : (n column : ℕ) → read_at format text ≡ Err n → column + n ≡ suc (length text) → ((p : Statement) → ¬ ReadsIn format text p) × IsColumnIn format text column
@@ -177,12 +167,12 @@ module _ (format : Format) (text : List ℕ) where
   one_column c d (inl s) (inl t) = stops_once text c d s t
   one_column c d (inl s) (inr (q, t)) = absurd (s.none (stated_as q (Some d), t))
   one_column c d (inr (p, s)) (inl t) = absurd (t.none (stated_as p (Some c), s))
-  one_column c d (inr (p, s)) (inr (q, t)) = same_some c d (ap (λ (a : Stated). a.fault) (one_stated (stated_as p (Some c)) (stated_as q (Some d)) s t))
+  one_column c d (inr (p, s)) (inr (q, t)) = same_Some c d (ap (λ (a : Stated). a.fault) (one_stated (stated_as p (Some c)) (stated_as q (Some d)) s t))
 
   -- a line that states something has no column
   pub stated_or_column : (s : Statement) (c : ℕ) → ReadsIn format text s → IsColumnIn format text c → ⊥
   stated_or_column s c x (inl stops) = stops.none (stated_as s None, x)
-  stated_or_column s c x (inr (t, is)) = some_none c (ap (λ (a : Stated). a.fault) (one_stated (stated_as t (Some c)) (stated_as s None) is x))
+  stated_or_column s c x (inr (t, is)) = none-some c (sym (ap (λ (a : Stated). a.fault) (one_stated (stated_as t (Some c)) (stated_as s None) is x)))
 
 -- ---- questions
 

@@ -17,7 +17,8 @@ use Rattle.cg_grammar.specs.Repeated.{RepeatsAt, RunRepeats, braces_but, line_by
 use Rattle.cg_reading.proofs.Spelled.{then_as}
 use Rattle.cg_grammar.proofs.Clean.{Before, Cleans, before_first, before_rest, both, in_first}
 use Rattle.cg_grammar.proofs.Clean.{in_longest, in_second, made, many, or_clean, padded, same, spaced}
-use Rattle.cg_grammar.proofs.LeastFault.{none_some, row_within, some_same}
+use Rattle.cg_grammar.proofs.LeastFault.{row_within}
+use Rattle.std.proofs.lemmas.Option.{none-some, same_Some}
 use Rattle.cg_grammar.proofs.InOrder.{AllLie, expr_lies, fault_of, fault_with, first_cases, first_lies}
 use Rattle.cg_grammar.proofs.InOrder.{items_lie, made_lie, next_lies, side_order, special_lies, term_lies}
 use Rattle.cg_grammar.proofs.RepeatedRuns.{repeats_exactly}
@@ -36,8 +37,8 @@ own_fault : (earlier : List ℕ) (bars column c : ℕ) → cond (repeats bars fa
 own_fault earlier bars column c e = by (repeats bars false earlier) refl e
   where
     by : (t : Bool) → repeats bars false earlier ≡ t → cond t (Some column) None ≡ Some c → (column ≡ c) × Repeats bars earlier
-    by true h k = (some_same column c k, (repeats_exactly bars earlier).0 h)
-    by false h k = absurd (none_some k)
+    by true h k = (same_Some column c k, (repeats_exactly bars earlier).0 h)
+    by false h k = absurd (none-some _ k)
 
 own_found : (earlier : List ℕ) (bars column : ℕ) → Repeats bars earlier → cond (repeats bars false earlier) (Some column) None ≡ Some column
 own_found earlier bars column r = ap (λ (t : Bool). cond t (Some column) None) ((repeats_exactly bars earlier).1 r)
@@ -96,7 +97,7 @@ module _ (d : ℕ) where
         (padded d side_fault (made d side_fault (λ v. v.0 ∷ v.1) (both d fault_of side_fault r items (λ i v text is c e. (x.lie i v text is c e).1)))) nothing)
       where
         nothing : Cleans d side_fault (Nothing []) (Nothing [])
-        nothing = record { to = λ i v text is. is; avoids = λ i v text is e. none_some (sym (ap side_fault is.0) ∙ e); from = λ i v text is l. is }
+        nothing = record { to = λ i v text is. is; avoids = λ i v text is e. none-some _ (sym (ap side_fault is.0) ∙ e); from = λ i v text is l. is }
 
     side_ends : (i : ℕ) (es : List Found) (text : List ℕ) → g.side T i es text → (c : ℕ) → side_fault es ≡ Some c → c < i + length text
     side_ends i es text is c e =
@@ -120,7 +121,7 @@ module _ (d : ℕ) where
 
     rows_avoid : (earlier : List ℕ) (rs : List ((ℕ × ℕ) × List Found)) (j : ℕ) (text : List ℕ) → g.Rows (g.side E) j rs text
         → (RunRepeats earlier (map run_side rs) d → ⊥) → rows_fault earlier rs ≡ Some d → ⊥
-    rows_avoid earlier [] j text b n e = none_some e
+    rows_avoid earlier [] j text b n e = none-some _ e
     rows_avoid earlier (r ∷ rs) j text b n e =
         let more = earlier ++ r.0.1 ∷ [] in
         by (first_cases (cond (repeats r.0.1 false earlier) (Some r.0.0) None) (first (side_fault r.1) (rows_fault more rs)) d e)
@@ -278,12 +279,12 @@ whole_least format line a is = by a.fault refl
     kept d h r = r.left_out a ((clean d).from 1 a line (by_line format 1 a line is) (inr h))
 
     by : (o : Option ℕ) → a.fault ≡ o → IsLeast (RepeatsAt format line) o
-    by None e = λ n r. kept n (λ c h. absurd (none_some (sym e ∙ h))) r
+    by None e = λ n r. kept n (λ c h. absurd (none-some _ (sym e ∙ h))) r
     by (Some c) e = (
       record { read = (a, is); left_out = λ b w. (clean c).avoids 1 b line w (ap (λ (z : Stated). z.fault) (one_stated format line b a (is_line format 1 b line ((clean c).to 1 b line w)) is) ∙ e) },
       λ n r. least n r (ltb n c) refl,
     )
       where
         least : (n : ℕ) → RepeatsAt format line n → (t : Bool) → ltb n c ≡ t → c ≤ n
-        least n r true h = absurd (kept n (λ b k. omega (arith, ltb-true n c h, some_same c b (sym e ∙ k))) r)
+        least n r true h = absurd (kept n (λ b k. omega (arith, ltb-true n c h, same_Some c b (sym e ∙ k))) r)
         least n r false h = ltb-false n c h

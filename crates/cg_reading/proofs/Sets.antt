@@ -1,20 +1,13 @@
 -- Sets of bytes.
 use Rattle.std.proofs.Common.{◌≡◌, ℕ, ◌≤◌, inl, inr, Bool, true, false, ◌&&◌, ◌||◌, cond, leb, List, [], ◌∷◌, ◌++◌, refl, ap, sym, subst, ◌∙◌, arith}
 use Rattle.std.specs.Prelude.{ltb}
-use Rattle.std.proofs.lemmas.Bool.{false_from_ne_true, and_parts, and_from, leb-true, ltb-true, le-leb, lt-leb, or_cases, or_parts}
+use Rattle.std.proofs.Math.Bool.{or-true, and-false}
+use Rattle.std.proofs.lemmas.Bool.{true≢false, false_from_ne_true, and_parts, and_from, leb-true, ltb-true, le-leb, lt-leb, or_cases, or_parts}
 use Rattle.cg_reading.specs.Bytes.{Class, has, Ends, Begins}
 
 or_assoc : (a b c : Bool) → ((a || b) || c) ≡ (a || (b || c))
 or_assoc true b c = refl
 or_assoc false b c = refl
-
-or_true : (a : Bool) → (a || true) ≡ true
-or_true true = refl
-or_true false = refl
-
-and_false : (a : Bool) → (a && false) ≡ false
-and_false true = refl
-and_false false = refl
 
 -- ---- sets of bytes
 
@@ -26,7 +19,7 @@ pub has_left : (c d : Class) (b : ℕ) → has c b ≡ true → has (c ++ d) b �
 has_left c d b h = has_append c d b ∙ ap (λ (x : Bool). x || has d b) h
 
 pub has_right : (c d : Class) (b : ℕ) → has d b ≡ true → has (c ++ d) b ≡ true
-has_right c d b h = has_append c d b ∙ ap (λ (x : Bool). has c b || x) h ∙ or_true (has c b)
+has_right c d b h = has_append c d b ∙ ap (λ (x : Bool). has c b || x) h ∙ or-true (has c b)
 
 no_left : (c d : Class) (b : ℕ) → has (c ++ d) b ≡ false → has c b ≡ false
 no_left c d b h = (or_parts (has c b) (has d b) (sym (has_append c d b) ∙ h)).0
@@ -50,7 +43,7 @@ not_in low high b (s ∷ ss) h l u =
     let p = and_parts (ltb high s.0 || ltb s.1 low) (away low high ss) h in
     let out : (leb s.0 b && leb b s.1) ≡ false = elim (or_cases (ltb high s.0) (ltb s.1 low) p.0) [
       | inl q ↦ rw (lt-leb s.0 b (omega (arith, ltb-true high s.0 q))) refl
-      | inr q ↦ rw (lt-leb b s.1 (omega (arith, ltb-true s.1 low q))) (and_false (leb s.0 b))
+      | inr q ↦ rw (lt-leb b s.1 (omega (arith, ltb-true s.1 low q))) (and-false (leb s.0 b))
     ] in
     ap (λ (x : Bool). x || has ss b) out ∙ not_in low high b ss p.1 l u
 
@@ -103,7 +96,7 @@ covered_has low high b (s ∷ ss) h l u =
       | inl q ↦ (let t = and_parts (leb s.0 low) (leb high s.1) q in
           let both : (leb s.0 b && leb b s.1) ≡ true = and_from (leb s.0 b) (leb b s.1) (le-leb s.0 b (omega (arith, leb-true s.0 low t.0))) (le-leb b s.1 (omega (arith, leb-true high s.1 t.1))) in
           ap (λ (x : Bool). x || has ss b) both)
-      | inr q ↦ ap (λ (x : Bool). (leb s.0 b && leb b s.1) || x) (covered_has low high b ss q l u) ∙ or_true (leb s.0 b && leb b s.1)
+      | inr q ↦ ap (λ (x : Bool). (leb s.0 b && leb b s.1) || x) (covered_has low high b ss q l u) ∙ or-true (leb s.0 b && leb b s.1)
     ]
 
 pub inside_has : (c d : Class) (b : ℕ) → inside c d ≡ true → has c b ≡ true → has d b ≡ true
@@ -121,10 +114,7 @@ wider_begins c d e (x ∷ text) h b = inside_has c d x h b
 
 pub wider_ends : (c d : Class) (rest : List ℕ) → inside c d ≡ true → Ends d rest → Ends c rest
 wider_ends c d [] h b = tt
-wider_ends c d (x ∷ rest) h b = false_from_ne_true (has c x) (λ (k : has c x ≡ true). true_is_not (sym (inside_has c d x h k) ∙ b))
-  where
-    true_is_not : true ≡ false → ⊥
-    true_is_not e = cc
+wider_ends c d (x ∷ rest) h b = false_from_ne_true (has c x) (λ (k : has c x ≡ true). true≢false (sym (inside_has c d x h k) ∙ b))
 
 pub no_class : (rest : List ℕ) → Ends [] rest
 no_class [] = tt

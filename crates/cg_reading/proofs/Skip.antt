@@ -1,7 +1,13 @@
 -- What is taken and what is skipped.
-use Rattle.std.proofs.Common.{◌≡◌, ℕ, suc, ◌+◌, ◌-◌, Bool, true, false, cond, List, [], ◌∷◌, length, take, refl, ap, ◌∙◌, arith}
+use Rattle.std.proofs.Common.{◌≡◌, ◌≢◌, ℕ, suc, ◌+◌, ◌-◌, Bool, true, false, cond, List, [], ◌∷◌, length, take, refl, ap, ◌∙◌, arith}
 use Rattle.cg_reading.specs.Bytes.{Class, has}
 use Rattle.cg_reading.specs.Readers.{taken, skipped}
+
+pub some_item : (x : ℕ) (xs : List ℕ) → x ∷ xs ≢ []
+some_item x xs e = cc
+
+pub same_head : (x y : ℕ) (xs ys : List ℕ) → x ∷ xs ≡ y ∷ ys → x ≡ y
+same_head x y xs ys e = cc
 
 pub taken_length : (c : Class) (bytes : List ℕ) → length (taken c bytes) + length (skipped c bytes) ≡ length bytes
 taken_length c [] = omega arith
