@@ -22,7 +22,7 @@ about an hour on four cores, and leaves the program in crates/cg/out/cg.
 """
 THEOREM = """\
 For every session, table size and number of threads the output is exactly the text that the definitions give: for each line
-the textbook's answer, or the one refusal that applies. Where memory runs out or reading fails there are no answers, and the
+the textbook's answer, or the one refusal that applies. If memory runs out or reading fails there are no answers, and the
 exit status says so. docs/PROOF.md, which is in each package, has the theorem, and what a reviewer reads.
 """
 
@@ -73,7 +73,7 @@ def trusted(top):
     if not rows or tuple(rows[0]) != TRUSTED:
         raise Unfit("docs/PROOF.md has no table of what is trusted")
     lines = (f"- {name}{f' ({size})' if size else ''}: {what}" for name, size, what in rows[2:])
-    lines = (line.replace("the definitions above", "the definitions that docs/PROOF.md lists") for line in lines)
+    lines = (line.replace("the definitions below", "the definitions that docs/PROOF.md lists") for line in lines)
     return [textwrap.fill(line, 118, subsequent_indent="  ", break_on_hyphens=False) for line in lines]
 
 
