@@ -49,16 +49,45 @@ class InputOutput(Tried):
                    'LD_PRELOAD= exec "$REAL" "$@" < "$0.in"', "call 1 of write fails by EAGAIN: (0, b'2: ^*")
 
 
+# A function that takes a size of the stack, some bytes of it at a time, as compilers do that touch each page.
+PROBED = """
+    .globl main
+main:
+    push %rbp
+    mov %rsp,%rbp
+    {size}
+    mov %rsp,%rsi
+    sub %rax,%rsi
+1:  cmp %rsp,%rsi
+    jge 2f
+    xorq $0,(%rsp)
+    sub $3072,%rsp
+    jmp 1b
+2:  {end}
+    {behind}
+    mov %rbp,%rsp
+    pop %rbp
+    ret
+"""
+# A function of a thousand ways, which ends where a table says.
+SWITCH = "int g(int);\nint main(int n, char **w) {\n    switch (n) {\n" + "".join(
+    f"    case {n}: return g({n * n % 77}) + {n};\n" for n in range(20)) + "    }\n    return 0;\n}\nint g(int n) { return n + 1; }\n"
+
+
 class Stack(Tried):
     """stack-bound, with programs that it can't answer for."""
 
-    def built(self, source, *words):
-        """A program in C, built without improvements."""
+    def built(self, source, *words, kind="c"):
+        """A program in C, or in assembler, built without improvements."""
         path = os.path.join(self.folder, "built")
-        with open(path + ".c", "w", encoding="utf-8") as file:
+        with open(f"{path}.{kind}", "w", encoding="utf-8") as file:
             file.write(source)
-        subprocess.run(["cc", "-O0", "-o", path, path + ".c", *words], check=True)
+        subprocess.run(["cc", "-O0", "-o", path, f"{path}.{kind}", *words], check=True)
         return path
+
+    def probed(self, size="mov $0,%eax", end="mov %rsi,%rsp", behind=""):
+        """A program that takes a size of the stack in steps."""
+        return self.built(PROBED.format(size=size, end=end, behind=behind), "-Wl,-z,noexecstack", kind="s")
 
     def spoilt(self, before, behind):
         """The tools, with a text of stack-bound replaced."""
@@ -92,6 +121,30 @@ class Stack(Tried):
         program = self.built("int f(int n) { char a[n]; a[0] = 1; return a[0]; }\nint main(int n, char **w) { return f(n); }\n",
                              "-fno-stack-clash-protection")
         self.fails("f has what can't be read: sub", "stack-bound", program=program)
+
+    def test_a_stack_pointer_that_is_moved(self):
+        """One that is set to a known place can be read, and any other can't."""
+        for size, told in ("xor %eax,%eax", 8 + 8), ("mov $48,%eax", 8 + 8 + 3072), ("mov $7000,%eax", 8 + 8 + 9216):
+            program = self.probed(size)
+            self.fails(f"the first thread needs at most {told + 65_536:,} bytes", "stack-bound", program=program)
+            self.assertNotIn("can't be read", self.run_tool("stack-bound", program=program)[1])
+        for given, told in (({"size": "mov %rdi,%rax"}, "a stack pointer that goes on and on: cmp"), ({"end": "mov %rdi,%rsp"}, "mov    %rdi,%rsp"),
+                            ({"behind": "sub %rdi,%rsp"}, "sub    %rdi,%rsp"), ({"behind": "mov 8(%rbp),%rsp"}, "mov    0x8(%rbp),%rsp"),
+                            ({"behind": "xchg %rdi,%rsp"}, "xchg   %rdi,%rsp"), ({"behind": "enter $8,$0"}, "enter  $0x8,$0x0"),
+                            ({"behind": "3: push %rax; jmp 3b"}, "a stack pointer that goes on and on: push"),
+                            ({"behind": "mov %rsp,%rbp"}, "48 bytes that stay: ret"), ({"behind": "ret"}, "56 bytes that stay: ret"),
+                            ({"behind": "jmp *%rdi"}, "jmp    *%rdi")):
+            with self.subTest(given=given):
+                self.fails("main has what can't be read: " + told, "stack-bound", program=self.probed(**{"size": "mov $48,%eax", **given}))
+
+    def test_each_way_is_gone(self):
+        """A function whose ways a table lists is read whole; instructions that no way reaches are told."""
+        program = self.built(SWITCH, "-O2", "-fno-inline", "-fcf-protection=none")
+        ended, written = self.run_tool("stack-bound", program=program)
+        self.assertEqual(ended, 1)
+        self.assertNotIn("can't be read", written)
+        program = self.probed("jmp 4f; mov %rdi,%rsp; 4: mov $48,%eax")
+        self.fails("main has what can't be read: no way reaches mov", "stack-bound", program=program)
 
     def test_a_program_without_names(self):
         path = os.path.join(self.folder, "stripped")
