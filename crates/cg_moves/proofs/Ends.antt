@@ -5,7 +5,7 @@ use Rattle.std.specs.List.{flat_map}
 use Rattle.std.proofs.Math.Seq.{drop-cons}
 use Rattle.std.proofs.lemmas.List.{get_or-replicate, length-replicate}
 use Rattle.cg_moves.specs.declared.graph.Adjacency.{Adjacency}
-use Rattle.cg_moves.specs.declared.linking.Linked.{Linked}
+use Rattle.cg_moves.specs.declared.linked.Linked.{Linked}
 use Rattle.cg_moves.specs.declared.walk.Open.{Open}
 use Rattle.cg_moves.specs.Grid.{Grid}
 use Rattle.cg_moves.specs.Graph.{StandAt}

@@ -14,6 +14,7 @@ pub mod OnWalk
 pub mod Broad
 pub mod Links
 pub mod AllFound
+pub mod Numberings
 pub mod Numbers
 pub mod Visits
 pub mod Stepping

@@ -1,7 +1,7 @@
 -- How a walk by numbers goes on from one that was entered to the next.
 use Rattle.std.proofs.Common.{◌≡◌, ℕ, ◌+◌, ◌*◌, ◌<◌, ◌≤◌, List, [], ◌∷◌, ◌++◌, length, get_or, append_assoc, ap, sym, ◌∙◌, arith}
 use Rattle.std.specs.Prelude.{All}
-use Rattle.cg_moves.specs.declared.linking.Linked.{Linked}
+use Rattle.cg_moves.specs.declared.linked.Linked.{Linked}
 use Rattle.cg_moves.specs.declared.walk.Open.{Open}
 use Rattle.cg_moves.specs.declared.walk.Visited.{Visited}
 use Rattle.cg_moves.specs.Visiting.{CanVisit, IsInside, IsStep, IsVisiting, board_at, visits_by, visits_of, work_left}

@@ -7,7 +7,7 @@ use Rattle.std.proofs.Math.Seq.{drop-append_seam}
 use Rattle.std.proofs.lemmas.List.{append-nil, get_or-set_other, get_or-set_same, length-drop, length-map, length-set, length-take-le, take_all}
 use Rattle.cg_form.specs.Firsts.{EachOnce}
 use Rattle.cg_moves.specs.declared.graph.Adjacency.{Adjacency}
-use Rattle.cg_moves.specs.declared.linking.Linked.{Linked}
+use Rattle.cg_moves.specs.declared.linked.Linked.{Linked}
 use Rattle.cg_moves.specs.declared.walk.Open.{Open}
 use Rattle.cg_moves.specs.Grid.{Grid}
 use Rattle.cg_moves.specs.Graph.{IsAt, IsNext, StandAt}

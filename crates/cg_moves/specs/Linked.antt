@@ -1,7 +1,7 @@
 -- Parts by numbers: a part's number is its place among those that were found.
 use Rattle.std.specs.Prelude.{◌≡◌, ℕ, ◌<◌, All, List, [], ◌∷◌, ◌++◌, length}
 use Rattle.cg_moves.specs.declared.graph.Adjacency.{Adjacency}
-use Rattle.cg_moves.specs.declared.linking.Linked.{Linked}
+use Rattle.cg_moves.specs.declared.linked.Linked.{Linked}
 use Rattle.cg_moves.specs.Grid.{Grid}
 use Rattle.cg_moves.specs.Graph.{IsAt, IsNext, StandAt}
 use Rattle.cg_moves.specs.Lawful.{IsLawful}

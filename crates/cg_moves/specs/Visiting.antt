@@ -1,7 +1,7 @@
 -- A walk by numbers: which parts were visited, and which were entered and are to be left.
 use Rattle.std.specs.Prelude.{◌≡◌, ℕ, zero, suc, ◌+◌, ◌-◌, ◌*◌, ◌<◌, ◌≤◌, List, [], ◌∷◌, ◌++◌, get_or, length, map, take, drop}
 use Rattle.cg_moves.specs.declared.graph.Adjacency.{Adjacency}
-use Rattle.cg_moves.specs.declared.linking.Linked.{Linked}
+use Rattle.cg_moves.specs.declared.linked.Linked.{Linked}
 use Rattle.cg_moves.specs.declared.walk.Open.{Open}
 use Rattle.cg_moves.specs.declared.walk.Visited.{Visited}
 use Rattle.cg_moves.specs.Grid.{Grid}

@@ -10,6 +10,7 @@ mod graph;
 mod grid;
 mod key;
 pub mod laws;
+mod linked;
 mod linking;
 mod ordering;
 mod pieces;

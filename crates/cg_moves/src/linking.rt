@@ -1,5 +1,5 @@
 //! Parts by numbers: what play can come to, found in breadth, and what comes next after each part, listed once.
-ghost use Rattle.std.specs.Prelude.{◌≡◌, ◌+◌, ◌<◌, ◌≤◌, ◌∷◌, ◌++◌, [], true, IfOk, List, OnOk, drop, length, map, take, Err};
+ghost use Rattle.std.specs.Prelude.{◌≡◌, ◌+◌, ◌<◌, ◌≤◌, ◌∷◌, ◌++◌, [], true, IfOk, List, OnOk, length, map, take, Err};
 ghost use Rattle.std.specs.List.{flat_map};
 ghost use Rattle.cg_moves.specs.Found.{SameSymbols};
 ghost use Rattle.cg_moves.specs.Grid.{AreAlike, Grid};
@@ -13,33 +13,10 @@ ghost use Rattle.cg_moves.specs.Walking.{reached, walk_of};
 
 use crate::edges::Edges;
 use crate::found::Found;
+use crate::linked::Linked;
 use crate::pushing::push;
 use crate::{Adjacency, Board, Player, ReachFault, Rules};
 use std::alloc::{AllocError, Global};
-
-/// Parts, each once. A part's number is its place among those that were found.
-#[derive(Drop)]
-pub(crate) struct Linked {
-    /// The parts that were found.
-    pub(crate) found: Found,
-    /// For each of the first of them, in order, what comes next after it, by numbers.
-    pub(crate) next: Vec<Adjacency>,
-    /// How many parts each board has that a move leads to.
-    pub(crate) counts: Vec<usize>,
-    /// The numbers of these parts.
-    pub(crate) numbers: Vec<usize>,
-}
-
-impl Linked {
-    /// The numbers of the parts that come next after a part, where this says where they stand.
-    #[inline(always)]
-    pub(crate) fn numbers_of(&self, next: Adjacency) -> &[usize]
-        requires { next.first_place + next.parts ≤ length self.now.numbers.items }
-        ensures { result.now ≡ take next.parts (drop next.first_place self.now.numbers.items) }
-    {
-        &self.numbers[next.first_place..next.first_place + next.parts]
-    }
-}
 
 /// Puts the numbers of the boards behind the others.
 fn number_all(

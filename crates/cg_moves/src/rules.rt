@@ -77,9 +77,9 @@ pub trait Rules {
         Ok(())
     }
 
-    /// Where the rules cut, puts the pieces of the boards, board by board, into the room, in the place of the boards that
-    /// are there, and how many each board has behind the counts. Where they don't, nothing is said of the room and the
-    /// counts. The boards must be boards of the game that differ in their cells alone.
+    /// Where the rules cut, puts the pieces of the boards, board by board, into the room, in place of the boards there,
+    /// and how many each board has behind the counts. Where they don't, nothing is said of the room and the counts.
+    /// The boards must be boards of the game that differ in their cells alone.
     fn pieces_of_all_into(
         &self,
         alloc: Global,

@@ -8,7 +8,8 @@ ghost use Rattle.cg_moves.specs.Walking.{Walk, parts, play, reached, walk_of};
 ghost use Rattle.cg_moves.specs.Walks.{Enters, Leaves, Visit, entered};
 
 use crate::edges::Edges;
-use crate::linking::{Linked, linked_from};
+use crate::linked::Linked;
+use crate::linking::linked_from;
 use crate::pushing::push;
 use crate::{Adjacency, Board, Boards, PositionGraph, ReachFault, Rules};
 use std::alloc::{AllocError, Global};

@@ -2,7 +2,7 @@ use Rattle.std.proofs.Common.{◌∙◌, ap, take}
 use Rattle.std.proofs.lemmas.List.{take_all}
 use Rattle.cg_moves.specs.Kept.{kept}
 use Rattle.cg_moves.proofs.Broad.{same_symbols-kept}
-use Rattle.cg_moves.proofs.Links.{found-next, numbered-next, taken-in}
+use Rattle.cg_moves.proofs.Numberings.{found-next, numbered-next, taken-in}
 use Rattle.cg_moves.proofs.Places.{in_read}
 use Rattle.cg_moves.proofs.linking.number_all.Goals as goal
 

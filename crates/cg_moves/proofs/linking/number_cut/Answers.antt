@@ -2,7 +2,7 @@ use Rattle.std.proofs.Common.{◌∙◌, ◌++◌, ◌∷◌, [], ap, length, sy
 use Rattle.cg_moves.specs.Rules.{pieces}
 use Rattle.cg_moves.proofs.Broad.{same_symbols-last}
 use Rattle.cg_moves.proofs.Carried.{if_ok, ok_any}
-use Rattle.cg_moves.proofs.Links.{known-found, known-numbered}
+use Rattle.cg_moves.proofs.Numberings.{known-found, known-numbered}
 use Rattle.cg_moves.proofs.Members.{carry}
 use Rattle.cg_moves.proofs.PlaceLemmas.{at-in}
 use Rattle.cg_moves.proofs.linking.number_cut.Goals as goal

@@ -4,7 +4,7 @@ use Rattle.std.proofs.lemmas.List.{map-append, take_all}
 use Rattle.cg_moves.specs.Grid.{Grid}
 use Rattle.cg_moves.specs.Kept.{kept}
 use Rattle.cg_moves.specs.Rules.{pieces}
-use Rattle.cg_moves.proofs.Links.{parts-found, parts-numbered, pieces-same, pieces-uncut}
+use Rattle.cg_moves.proofs.Numberings.{parts-found, parts-numbered, pieces-same, pieces-uncut}
 use Rattle.cg_moves.proofs.Places.{in_read, take_next}
 use Rattle.cg_moves.proofs.linking.number_each.Goals as goal
 
