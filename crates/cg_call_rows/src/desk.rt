@@ -10,7 +10,7 @@
 //! most the number; `id:2` the id of a handle, `kind:2` and `read:2` the number of a game; `sides:2` the options that
 //! are written in its form, and `lists:2` the handles on its left, how many, whether none, and whether the same list is
 //! on its right; `positions:2:3` its positions, if there are no more; `left:1:2` and `right:1:2` the walls of game 2 at
-//! the temperature 1.
+//! the temperature 1; `name:2` its name.
 ghost use Rattle.std.specs.Prelude.{IfOk};
 ghost use Rattle.cg_canon.specs.Works.{work_state};
 ghost use Rattle.cg_cells.specs.Store.{Spends};
@@ -20,6 +20,7 @@ use crate::text::{cut, number, shown, wide};
 use cg_canon::{Work, Written, canonical, equal, item_of, le, le_number, number_item, number_le};
 use cg_cells::CellStore;
 use cg_dyadic::Wide;
+use cg_names::name as name_of;
 use cg_nodes::{
     BoardForms, GameFacts, Handle, Handles, Kind, Reading, compare_structure, handles, kind,
     positions, read,
@@ -264,6 +265,12 @@ impl<'a, B: BoardForms, S: CellStore<GameFacts<B>>> Desk<'a, B, S> {
         value_at(alloc, &walls.right, at)
     }
 
+    /// The name of a game.
+    fn name(&mut self, alloc: Global, text: &str) -> anyhow::Result<String> {
+        let handle = self.game(text)?;
+        Ok(name_of(alloc, &mut self.work, handle)?)
+    }
+
     /// What the call answers that the word spells.
     pub(crate) fn call(&mut self, alloc: Global, word: &str) -> anyhow::Result<String> {
         let (name, text) = cut(word, ':');
@@ -277,6 +284,7 @@ impl<'a, B: BoardForms, S: CellStore<GameFacts<B>>> Desk<'a, B, S> {
             "lists" => self.lists(alloc, text),
             "positions" => self.positions(alloc, text),
             "left" | "right" => self.wall(alloc, name, text),
+            "name" => self.name(alloc, text),
             _ => self.look(alloc, name, text),
         }
     }

@@ -10,7 +10,7 @@
 //! - `home`, `blank`: homes of keys; the blank handle
 //! - `line`, `cuts`, `statement`, `session`: the question that a line reads as, or the column at which it is refused
 //! - `all`, `last`: values of heaps
-//! - `nimber`, `clobber`: values, by their names, and what was spent on them
+//! - `nimber`, `switch`, `clobber`: values, by their names, and what was spent on them
 //! - `sample`: the sample of so many lines, with ` ~ ` for each end of a line
 //! - the name of a game, or `rays`: boards
 #![tactic(auto)]
@@ -60,7 +60,7 @@ fn answer(alloc: Global, row: &str) -> anyhow::Result<String> {
             rest.as_bytes(),
         )?),
         "all" | "last" => heaps::answer(alloc, call, rest),
-        "nimber" | "clobber" => values::answer(alloc, call, rest),
+        "nimber" | "switch" | "clobber" => values::answer(alloc, call, rest),
         "sample" => sampled(alloc, rest),
         _ => boards::answer(alloc, call, rest),
     }

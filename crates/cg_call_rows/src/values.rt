@@ -1,21 +1,37 @@
 //! Rows of calls that make items: the name of the value, and what was spent in the call.
 //!
-//! `nimber 2` makes this game, and `clobber xo` the value of a board of Clobber; each on a store of 4,096 cells with
-//! 65,536 positions.
+//! `nimber 2` and `switch 1` make these games, and `clobber xo` the value of a board of Clobber; each on a store of
+//! 4,096 cells with 65,536 positions.
 ghost use Rattle.std.specs.Prelude.{IfOk};
 ghost use Rattle.cg_canon.specs.Works.{work_state};
 ghost use Rattle.cg_nodes.specs.Games.{IsGame};
 
+use crate::text::number;
 use cg_canon::Work;
 use cg_cells::{CellStore, PlainStore};
 use cg_clobber::{Clobber, read};
+use cg_dyadic::Dyadic;
 use cg_eval::{CgBoards, SumAdder, may_note};
-use cg_names::{name, nimber};
+use cg_names::{name, nimber, switch};
 use cg_nodes::{GameFacts, Handle};
 use cg_values::value_of;
 use std::alloc::Global;
 
 type Store = PlainStore<GameFacts<CgBoards>>;
+
+/// The switch of a number of at least 0.
+fn switched<S: CellStore<GameFacts<CgBoards>>>(
+    alloc: Global,
+    work: &mut Work<CgBoards, S>,
+    x: Dyadic,
+) -> anyhow::Result<Handle>
+    ensures { IfOk result (λ h. IsGame (work_state S.state work.new) h) }
+{
+    if !Dyadic::of_lowest(0, 0).le(x) {
+        anyhow::bail!("a negative number");
+    }
+    Ok(switch(alloc, work, Some(x))?)
+}
 
 /// The value of the call's argument.
 fn made<S: CellStore<GameFacts<CgBoards>>>(
@@ -28,6 +44,7 @@ fn made<S: CellStore<GameFacts<CgBoards>>>(
 {
     match call {
         "nimber" => Ok(nimber(alloc, work, rest.parse::<u128>()?)?),
+        "switch" => switched(alloc, work, number(rest)?),
         _ => {
             let board = read(alloc, rest.as_bytes())?;
             may_note();

@@ -1,3 +1,4 @@
+pub mod FourWords
 pub mod Handles
 pub mod Knowing
 pub mod Singles

@@ -8,8 +8,7 @@ ghost use Rattle.cg_cells.specs.Store.{Spends};
 ghost use Rattle.cg_thread_rows.specs.Homes.{one_home_meaning, one_home_lawful};
 
 use cg_cells::{CellStore, Facts, Id, Key, KeyParts};
-use cg_dyadic::Dyadic;
-use cg_nodes::{GameFacts, Handle, NoBoards, Thing, number};
+use cg_nodes::{GameFacts, NoBoards, Thing};
 use cg_pool::{CachingJob, Job};
 use cg_shared::Desk;
 use std::alloc::{AllocError, Global};
@@ -105,30 +104,27 @@ impl CachingJob<OneHome> for Claims {
     ghost holding = { λ cache f g grows h. h };
 }
 
-/// Each line makes the number that it has, and holds nothing from line to line.
+/// Each line claims the number that it has, and holds nothing from line to line.
 #[derive(Drop)]
 pub(crate) struct Numbers;
 
 impl Job<GameFacts<NoBoards>> for Numbers {
-    type Answer = Handle;
+    type Answer = Id;
 
     ghost count = { λ _. 4096 };
 
-    ghost needs = { λ _. 3 };
+    ghost needs = { λ _. 1 };
 
-    ghost good = { λ _ n handle known. Unit {0} };
+    ghost good = { λ _ n id known. Unit {0} };
 
     fn work(
         &self,
         _alloc: Global,
         desk: &mut Desk<'_, GameFacts<NoBoards>>,
         index: u64,
-    ) -> Result<Handle, AllocError> {
-        match Dyadic::make(i128::from(index), 0) {
-            Ok(own) => Ok(number(desk, own)),
-            Err(_) => Err(AllocError),
-        }
+    ) -> Result<Id, AllocError> {
+        Ok(desk.claim(whole_key(index as u32)))
     }
 
-    ghost stays = { λ job n handle f g grows h. h };
+    ghost stays = { λ job n id f g grows h. h };
 }

@@ -56,15 +56,15 @@ fn workers_answer_each_line_once(rt: HostRuntime) -> Result<(), Fail> {
     Ok(())
 }
 
-/// One worker and two give the same two handles, since the homes of the two numbers are apart.
+/// One worker and two give the same two cells, since the homes of the two numbers are apart.
 #[test]
-fn workers_give_the_same_handles(rt: HostRuntime) -> Result<(), Fail> {
+fn workers_give_the_same_cells(rt: HostRuntime) -> Result<(), Fail> {
     for workers in [1, 2] {
         let made = evaluate(&rt, rt.alloc(), 2, 4, workers, &Numbers, &NoGate)?;
         let (Some(first), Some(second)) = (made.answers.first(), made.answers.get(1)) else {
             return Err("no answer")?;
         };
-        assert_eq!(rt; [first.id().number(), second.id().number()], [0, 5]);
+        assert_eq!(rt; [first.number(), second.number()], [0, 5]);
     }
     Ok(())
 }

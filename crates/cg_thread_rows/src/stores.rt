@@ -1,8 +1,12 @@
 //! Claims on a plain store.
+ghost use Rattle.std.specs.Prelude.{◌≡◌, ◌∷◌, [], IfOk};
+
 use crate::numbers::{OneHome, whole_key};
-use crate::stars::{Games, make_star};
+use crate::stars::{Games, make_star, zero};
 use cg_cells::{CellStore, PlainStore, StoreFault};
+use cg_nodes::{Kind, kind, number};
 use cg_shared::{SharedCells, Ticket};
+use std::alloc::{AllocError, Global};
 use std::test::Fail;
 
 #[test]
@@ -41,6 +45,35 @@ fn each_key_keeps_its_cell(rt: HostRuntime) -> Result<(), Fail> {
         assert_eq!(rt; far.claim(key).number(), num);
     }
     assert_eq!(rt; near.spare(), 14);
+    Ok(())
+}
+
+/// The word, and three words 0 behind it.
+fn and_three(alloc: Global, word: u64) -> Result<Vec<u64>, AllocError>
+    ensures { IfOk result (λ words. words.items ≡ word ∷ 0 ∷ 0 ∷ 0 ∷ []) }
+{
+    let mut words = Vec::new(alloc);
+    words.push(word)?;
+    words.push(0)?;
+    words.push(0)?;
+    words.push(0)?;
+    Ok(words)
+}
+
+/// A store of four words, of which the first is the key of the number 0: its handle is that of the first cell, and
+/// reads as 0.
+#[test]
+fn a_store_of_four_words_reads_as_zero(rt: HostRuntime) -> Result<(), Fail> {
+    let word = whole_key(0).word();
+    assert_eq!(rt; word, 0x2000_0000_0000_0000);
+    let keys = and_three(rt.alloc(), word)?;
+    let values = and_three(rt.alloc(), 0)?;
+    let mut store = PlainStore::<Games>::of_words(rt.alloc(), keys, values, 3)?;
+    assert_eq!(rt; store.spare(), 3);
+    let found = number(&mut store, zero());
+    assert_eq!(rt; found.id().number(), 0);
+    assert_eq!(rt; kind(&mut store, found), Kind::Number(zero()));
+    assert_eq!(rt; store.spare(), 2);
     Ok(())
 }
 
