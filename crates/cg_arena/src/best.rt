@@ -13,6 +13,7 @@ ghost use Rattle.cg_arena.specs.OrderMemos.{AreRight};
 ghost use Rattle.cg_arena.specs.Undominated.{Undominated, with_last};
 
 use crate::arena::Arena;
+use crate::game::Game;
 use crate::order::{at_most, none_as_good};
 use crate::order_memo::OrderMemo;
 use crate::ranked::furthest_first;
@@ -27,8 +28,8 @@ pub(crate) fn others(
     arena: &Arena,
     answers: &mut OrderMemo,
     left: bool,
-    items: &[u32],
-    x: u32,
+    items: &[Game],
+    x: Game,
 ) -> Result<Options, AllocError>
     requires items { AreIndexes arena.now items.now }
     requires x { IsIndex arena.now x }
@@ -60,8 +61,8 @@ fn last_beats(
     arena: &Arena,
     answers: &mut OrderMemo,
     left: bool,
-    x: u32,
-    items: &[u32],
+    x: Game,
+    items: &[Game],
 ) -> Result<bool, AllocError>
     requires x { IsIndex arena.now x }
     requires items { AreIndexes arena.now items.now }
@@ -82,8 +83,8 @@ fn none_beats(
     arena: &Arena,
     answers: &mut OrderMemo,
     left: bool,
-    x: u32,
-    items: &[u32],
+    x: Game,
+    items: &[Game],
     bounds: &Bounds,
 ) -> Result<bool, AllocError>
     requires x { IsIndex arena.now x }
@@ -109,7 +110,7 @@ fn others_bounded(
     answers: &mut OrderMemo,
     left: bool,
     items: Options,
-    x: u32,
+    x: Game,
     bounds: &Bounds,
 ) -> Result<Options, AllocError>
     requires items { AreIndexes arena.now items.items }
@@ -133,7 +134,7 @@ fn with_one(
     answers: &mut OrderMemo,
     left: bool,
     best: Chosen,
-    x: u32,
+    x: Game,
 ) -> Result<Chosen, AllocError>
     requires x { IsIndex arena.now x }
     requires best { AreIndexes arena.now best.items.items }
@@ -162,7 +163,7 @@ fn undominated_in_turn(
     arena: &Arena,
     answers: &mut OrderMemo,
     left: bool,
-    items: &[u32],
+    items: &[Game],
 ) -> Result<Options, AllocError>
     requires items { AreIndexes arena.now items.now }
     requires right { AreRight arena.now answers.old }
@@ -187,7 +188,7 @@ pub(crate) fn undominated(
     arena: &Arena,
     answers: &mut OrderMemo,
     left: bool,
-    items: &[u32],
+    items: &[Game],
 ) -> Result<Options, AllocError>
     requires items { AreIndexes arena.now items.now }
     requires right { AreRight arena.now answers.old }

@@ -12,6 +12,7 @@ ghost use Rattle.cg_arena.specs.OrderMemos.{AreRight};
 
 use crate::arena::{Arena, Read};
 use crate::decided::decided_for;
+use crate::game::Game;
 use crate::order_memo::OrderMemo;
 use std::alloc::AllocError;
 
@@ -22,8 +23,8 @@ pub(crate) fn none_as_good(
     arena: &Arena,
     answers: &mut OrderMemo,
     left: bool,
-    x: u32,
-    list: &[u32],
+    x: Game,
+    list: &[Game],
 ) -> Result<bool, AllocError>
     requires x { IsIndex arena.now x }
     requires list { AreIndexes arena.now list.now }
@@ -43,7 +44,7 @@ pub(crate) fn none_as_good(
 /// Whether a <= b, from their options.
 #[cycle(found)]
 #[inline(always)]
-fn compared(arena: &Arena, answers: &mut OrderMemo, a: u32, b: u32) -> Result<bool, AllocError>
+fn compared(arena: &Arena, answers: &mut OrderMemo, a: Game, b: Game) -> Result<bool, AllocError>
     requires a { IsIndex arena.now a }
     requires b { IsIndex arena.now b }
     requires right { AreRight arena.now answers.old }
@@ -54,15 +55,15 @@ fn compared(arena: &Arena, answers: &mut OrderMemo, a: u32, b: u32) -> Result<bo
     match arena.read(a) {
         Read::Number(x) => match high {
             Read::Number(y) => Ok(x.le(y)),
-            Read::Game(_, rights) => none_as_good(arena, answers, false, a, rights),
+            Read::Options(_, rights) => none_as_good(arena, answers, false, a, rights),
         },
-        Read::Game(lefts, _) => {
+        Read::Options(lefts, _) => {
             if !none_as_good(arena, answers, true, b, lefts)? {
                 return Ok(false);
             }
             match high {
                 Read::Number(_) => Ok(true),
-                Read::Game(_, rights) => none_as_good(arena, answers, false, a, rights),
+                Read::Options(_, rights) => none_as_good(arena, answers, false, a, rights),
             }
         }
     }
@@ -71,7 +72,7 @@ fn compared(arena: &Arena, answers: &mut OrderMemo, a: u32, b: u32) -> Result<bo
 /// Whether a <= b, by an answer that is kept, or from their options. The answer is kept, unless both games are light:
 /// these are compared again.
 #[cycle(found)]
-fn found(arena: &Arena, answers: &mut OrderMemo, a: u32, b: u32) -> Result<bool, AllocError>
+fn found(arena: &Arena, answers: &mut OrderMemo, a: Game, b: Game) -> Result<bool, AllocError>
     requires a { IsIndex arena.now a }
     requires b { IsIndex arena.now b }
     requires right { AreRight arena.now answers.old }
@@ -96,8 +97,8 @@ pub fn at_most(
     arena: &Arena,
     answers: &mut OrderMemo,
     left: bool,
-    a: u32,
-    b: u32,
+    a: Game,
+    b: Game,
 ) -> Result<bool, AllocError>
     requires a { IsIndex arena.now a }
     requires b { IsIndex arena.now b }

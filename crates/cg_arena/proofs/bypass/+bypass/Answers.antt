@@ -40,7 +40,7 @@ pub bypass_through-bypass_list-requires : goal.bypass_through-bypass_list-requir
 bypass_through-bypass_list-requires t c =
     let gs = c.args.arena.now in
     let answer = game_of gs c.args.answer in
-    let side = near_side gs answer c.in-Game.lefts.now c.in-Game.rights.now c.chosen-near.result.now c.args.left c.in-Game.ensures.read c.chosen-near.ensures in
+    let side = near_side gs answer c.in-Options.lefts.now c.in-Options.rights.now c.chosen-near.result.now c.args.left c.in-Options.ensures.read c.chosen-near.ensures in
     let less = through_less c.args.left (unreduced_game gs c.args.unreduced.now) answer (games_of gs c.chosen-near.result.now) side.same c.requires.back in
     let smaller = side.size in
     let there = side.indexes in
@@ -58,11 +58,11 @@ bypass_through-returns-in-Number-clause-done t c =
     (λ m a k. through_number c.args.left unreduced (game_of gs c.args.answer) c.in-Number.field-0
     (games_of gs c.push.new.self.items.items) c.in-Number.ensures.read c.requires.back m a k))
 
-pub bypass_through-returns-in-Game-clause-done : goal.bypass_through-returns-in-Game-clause-done
-bypass_through-returns-in-Game-clause-done t c =
+pub bypass_through-returns-in-Options-clause-done : goal.bypass_through-returns-in-Options-clause-done
+bypass_through-returns-in-Options-clause-done t c =
     let gs = c.args.arena.now in
     let answer = game_of gs c.args.answer in
-    let side = near_side gs answer c.in-Game.lefts.now c.in-Game.rights.now c.chosen-near.result.now c.args.left c.in-Game.ensures.read c.chosen-near.ensures in
+    let side = near_side gs answer c.in-Options.lefts.now c.in-Options.rights.now c.chosen-near.result.now c.args.left c.in-Options.ensures.read c.chosen-near.ensures in
     if_ok c.bypass_list.result _ _ c.bypass_list.ensures.done
     (λ r d. record {
       out = d.out;

@@ -14,38 +14,38 @@ at_most-returns-then-a-b-clause-order t c =
 pub compared-returns-then-not-branch-clause-order : goal.compared-returns-then-not-branch-clause-order
 compared-returns-then-not-branch-clause-order t c =
     hindered (game_of c.args.arena.now c.args.a) (game_of c.args.arena.now c.args.b)
-    (games_of c.args.arena.now c.in-Game.lefts.now) (games_of c.args.arena.now c.in-Game.field-1.now) c.in_ok-none_as_good-in-Game.field-0
-    c.in-Game.ensures.read.2 c.in_ok-none_as_good-in-Game.ensures.order (search (rules, c.if-not-branch.true))
+    (games_of c.args.arena.now c.in-Options.lefts.now) (games_of c.args.arena.now c.in-Options.field-1.now) c.in_ok-none_as_good-in-Options.field-0
+    c.in-Options.ensures.read.2 c.in_ok-none_as_good-in-Options.ensures.order (search (rules, c.if-not-branch.true))
 
 pub compared-returns-in-Number-high-clause-order : goal.compared-returns-in-Number-high-clause-order
 compared-returns-in-Number-high-clause-order t c =
     numbers_case (game_of c.args.arena.now c.args.a) (game_of c.args.arena.now c.args.b) c.in-Number.x c.in-Number-high.y c.le.result
     c.in-Number.ensures.read c.in-Number-high.ensures.read c.le.ensures.value
 
-pub compared-returns-in-Game-high-clause-order : goal.compared-returns-in-Game-high-clause-order
-compared-returns-in-Game-high-clause-order t c =
+pub compared-returns-in-Options-high-clause-order : goal.compared-returns-in-Options-high-clause-order
+compared-returns-in-Options-high-clause-order t c =
     ok_same c.none_as_good.result _ _ c.none_as_good.ensures.order
     (number_case (game_of c.args.arena.now c.args.a) (game_of c.args.arena.now c.args.b) c.in-Number.x
-    (games_of c.args.arena.now c.in-Game-high.field-0.now) (games_of c.args.arena.now c.in-Game-high.rights.now)
-    c.in-Number.ensures.read c.in-Game-high.ensures.read.2 c.in-Game-high.ensures.canonical)
+    (games_of c.args.arena.now c.in-Options-high.field-0.now) (games_of c.args.arena.now c.in-Options-high.rights.now)
+    c.in-Number.ensures.read c.in-Options-high.ensures.read.2 c.in-Options-high.ensures.canonical)
 
 pub compared-returns-in-Number-high-2-clause-order : goal.compared-returns-in-Number-high-2-clause-order
 compared-returns-in-Number-high-2-clause-order t c =
-    let yes : c.in_ok-none_as_good-in-Game.field-0 ≡ true = search (rules, c.if-not-branch.false) in
-    sym yes ∙ c.in_ok-none_as_good-in-Game.ensures.order
+    let yes : c.in_ok-none_as_good-in-Options.field-0 ≡ true = search (rules, c.if-not-branch.false) in
+    sym yes ∙ c.in_ok-none_as_good-in-Options.ensures.order
     ∙ game_case (game_of c.args.arena.now c.args.a) (game_of c.args.arena.now c.args.b) c.in-Number-high-2.field-0
-    (games_of c.args.arena.now c.in-Game.lefts.now) (games_of c.args.arena.now c.in-Game.field-1.now)
-    c.in-Number-high-2.ensures.read c.in-Game.ensures.read.2 c.in-Game.ensures.canonical
+    (games_of c.args.arena.now c.in-Options.lefts.now) (games_of c.args.arena.now c.in-Options.field-1.now)
+    c.in-Number-high-2.ensures.read c.in-Options.ensures.read.2 c.in-Options.ensures.canonical
 
-pub compared-returns-in-Game-high-2-clause-order : goal.compared-returns-in-Game-high-2-clause-order
-compared-returns-in-Game-high-2-clause-order t c =
-    let yes : c.in_ok-none_as_good-in-Game.field-0 ≡ true = search (rules, c.if-not-branch.false) in
-    ok_same c.none_as_good-in-Game-high-2.result _ _ c.none_as_good-in-Game-high-2.ensures.order
+pub compared-returns-in-Options-high-2-clause-order : goal.compared-returns-in-Options-high-2-clause-order
+compared-returns-in-Options-high-2-clause-order t c =
+    let yes : c.in_ok-none_as_good-in-Options.field-0 ≡ true = search (rules, c.if-not-branch.false) in
+    ok_same c.none_as_good-in-Options-high-2.result _ _ c.none_as_good-in-Options-high-2.ensures.order
     (games_case (game_of c.args.arena.now c.args.a) (game_of c.args.arena.now c.args.b)
-    (games_of c.args.arena.now c.in-Game.lefts.now) (games_of c.args.arena.now c.in-Game.field-1.now)
-    (games_of c.args.arena.now c.in-Game-high-2.field-0.now) (games_of c.args.arena.now c.in-Game-high-2.rights.now)
-    c.in_ok-none_as_good-in-Game.field-0 c.in-Game.ensures.read.2 c.in-Game-high-2.ensures.read.2
-    c.in_ok-none_as_good-in-Game.ensures.order yes)
+    (games_of c.args.arena.now c.in-Options.lefts.now) (games_of c.args.arena.now c.in-Options.field-1.now)
+    (games_of c.args.arena.now c.in-Options-high-2.field-0.now) (games_of c.args.arena.now c.in-Options-high-2.rights.now)
+    c.in_ok-none_as_good-in-Options.field-0 c.in-Options.ensures.read.2 c.in-Options-high-2.ensures.read.2
+    c.in_ok-none_as_good-in-Options.ensures.order yes)
 
 pub found-returns-in_err-remember-clause-right : goal.found-returns-in_err-remember-clause-right
 found-returns-in_err-remember-clause-right t c = λ x k. c.compared-2.ensures.right x (c.in_err-remember.ensures.err x k)

@@ -10,5 +10,5 @@ index-requires c =
 
 pub returns : goal.returns
 returns c =
-    let f = entry_says c.self.inside c.args.self.now c.self.invariant c.self.view_is c.args.index c.index.result.now c.requires c.index.ensures in
+    let f = entry_says c.self.inside c.args.self.now c.self.invariant c.self.view_is c.args.game c.index.result.now c.requires c.index.ensures in
     says_keys c.self.inside.options.items c.args.self.now c.index.result.now f.0 _ f.1

@@ -10,7 +10,7 @@ index-requires c =
     omega arith
 
 pub returns-clause-summary : goal.returns-clause-summary
-returns-clause-summary c = summary_says c.self.inside c.args.self.now c.self.invariant c.self.view_is c.args.index c.index.result.now c.requires c.index.ensures
+returns-clause-summary c = summary_says c.self.inside c.args.self.now c.self.invariant c.self.view_is c.args.game c.index.result.now c.requires c.index.ensures
 
 pub returns-clause-small : goal.returns-clause-small
-returns-clause-small c = summary_small c.self.inside c.args.self.now c.self.invariant c.self.view_is c.args.index c.index.result.now c.requires c.index.ensures
+returns-clause-small c = summary_small c.self.inside c.args.self.now c.self.invariant c.self.view_is c.args.game c.index.result.now c.requires c.index.ensures
