@@ -137,6 +137,7 @@ impl Arena {
         ensures same { OnErr result (self.new ≡ self.old) }
     {
         let count = self.entries.len();
+        let game = Game::at(count as u32);
         let end = self.options.len();
         let summary = Summary::number(x);
         let entry = Entry {
@@ -148,7 +149,7 @@ impl Arena {
             weight: 1,
         };
         add(&mut self.entries, &mut self.summaries, entry, &summary)?;
-        Ok(Game::at(count as u32))
+        Ok(game)
     }
 
     /// Adds the game with these options and this summary, at the next place. The only error is want of memory.
@@ -170,6 +171,7 @@ impl Arena {
         ensures same { OnErr result (self.new ≡ self.old) }
     {
         let count = self.entries.len();
+        let game = Game::at(count as u32);
         let first = self.options.len();
         let middle = first + lefts.len();
         let end = middle + rights.len();
@@ -185,7 +187,7 @@ impl Arena {
             weight,
         };
         add(&mut self.entries, &mut self.summaries, entry, summary)?;
-        Ok(Game::at(count as u32))
+        Ok(game)
     }
 
     /// How many there are.
@@ -201,7 +203,7 @@ impl Arena {
         ensures some { IfSome result (λ game. (game ≡ place) × IsIndex self.now game) }
         ensures none { IfNone result (length self.now ≤ place) }
     {
-        if place < self.count() {
+        if place < self.entries.len() {
             return Some(Game::at(place as u32));
         }
         None
@@ -222,9 +224,10 @@ impl Arena {
         ensures read { IsRead self.now result (game_of self.now game) }
         ensures canonical { Canonical (game_of self.now game) }
     {
-        let found = &self.entries[game.place()];
+        let at = game.place();
+        let found = &self.entries[at];
         if found.is_number {
-            return Read::Number(self.summaries[game.place()].low.at);
+            return Read::Number(self.summaries[at].low.at);
         }
         let lefts = part(&self.options, found.lefts, found.rights);
         let rights = part(&self.options, found.rights, found.end);

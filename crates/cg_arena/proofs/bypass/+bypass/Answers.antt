@@ -1,4 +1,4 @@
-use Rattle.std.proofs.Common.{get_or, refl, rules}
+use Rattle.std.proofs.Common.{refl, rules}
 use Rattle.std.proofs.lemmas.Option.{MatchOption-at_none, MatchOption-at_some}
 use Rattle.cg_form.proofs.Sides.{size-far}
 use Rattle.cg_arena.specs.Arena.{game_of, games_of}
@@ -7,7 +7,7 @@ use Rattle.cg_arena.proofs.Against.{near_side}
 use Rattle.cg_arena.proofs.Bypassing.{bypassed_more, far_of_same, kept_there, replaced_and_passed, replaced_by_none}
 use Rattle.cg_arena.proofs.Bypassing.{replaced_by_one, through_fine, through_less, through_node, through_number}
 use Rattle.cg_arena.proofs.Results.{always_ok, if_ok}
-use Rattle.cg_arena.proofs.Slices.{item_among, item_size, index_of_item}
+use Rattle.cg_arena.proofs.Slices.{index_of_item, item_among, item_is, item_size}
 use Rattle.cg_arena.proofs.bypass.+bypass.Goals as goal
 
 -- ---- one option
@@ -89,21 +89,21 @@ bypass_once-returns-clause-done t c =
 pub bypass_list-bypass_once-requires : goal.bypass_list-bypass_once-requires
 bypass_list-bypass_once-requires t c =
     let gs = c.args.arena.now in
-    let x = get_or c.args.list.now c.loop-option.option-index 0 in
-    let index = index_of_item gs c.args.list.now c.loop-option.option-index x c.requires.list c.loop-option-test.true refl in
-    let smaller = item_size gs c.args.list.now c.loop-option.option-index x c.loop-option-test.true refl in
-    let less = c.requires.less.each (game_of gs x) (item_among gs c.args.list.now c.loop-option.option-index x c.loop-option-test.true refl) in
+    let x = c.option-item.result in
+    let index = index_of_item gs c.args.list.now c.loop-option.option-index x c.requires.list c.loop-option-test.true (item_is c.args.list.now c.loop-option.option-index _ c.option-item.is c.loop-option-test.true) in
+    let smaller = item_size gs c.args.list.now c.loop-option.option-index x c.loop-option-test.true (item_is c.args.list.now c.loop-option.option-index _ c.option-item.is c.loop-option-test.true) in
+    let less = c.requires.less.each (game_of gs x) (item_among gs c.args.list.now c.loop-option.option-index x c.loop-option-test.true (item_is c.args.list.now c.loop-option.option-index _ c.option-item.is c.loop-option-test.true)) in
     search rules
 
 pub bypass_list-loop-option-preserved : goal.bypass_list-loop-option-preserved
 bypass_list-loop-option-preserved t c =
     let gs = c.args.arena.now in
-    let x = get_or c.args.list.now c.loop-option.option-index 0 in
+    let x = c.option-item.result in
     record {
       known = c.bypass_once.ensures.known;
       out = c.in_ok-bypass_once.ensures.done.out;
       so_far = bypassed_more gs c.args.left (unreduced_game gs c.args.unreduced.now) c.args.list.now c.args.out.now.items.items
           c.loop-option.out.items.items c.bypass_once.new.out.items.items c.loop-option.option-index x
-          c.loop-option.invariant.so_far c.loop-option-test.true refl c.in_ok-bypass_once.ensures.done.grown
+          c.loop-option.invariant.so_far c.loop-option-test.true (item_is c.args.list.now c.loop-option.option-index _ c.option-item.is c.loop-option-test.true) c.in_ok-bypass_once.ensures.done.grown
           (c.in_ok-bypass_once.ensures.done.covered (game_of gs x) refl);
     }

@@ -1,10 +1,10 @@
-use Rattle.std.proofs.Common.{◌≡◌, false, not, refl, rules, sym, true, ◌∙◌}
+use Rattle.std.proofs.Common.{◌≡◌, false, not, rules, sym, true, ◌∙◌}
 use Rattle.std.proofs.lemmas.Option.{MatchOption-at_none, MatchOption-at_some}
 use Rattle.cg_form.specs.Side.{at_most}
 use Rattle.cg_arena.specs.Arena.{game_of, games_of}
 use Rattle.cg_arena.specs.UnreducedGames.{unreduced_game}
 use Rattle.cg_arena.proofs.Against.{far_own, hindered, known_more, near_side, some_passes, turned_list, unhindered}
-use Rattle.cg_arena.proofs.Slices.{item_among, item_size, index_of_item, slice_miss}
+use Rattle.cg_arena.proofs.Slices.{index_of_item, item_among, item_is, item_size, slice_miss}
 use Rattle.cg_arena.proofs.unreduced.+unreduced.Goals as goal
 
 pub at_most_unreduced-returns-in_err-remember-clause-known : goal.at_most_unreduced-returns-in_err-remember-clause-known
@@ -63,14 +63,14 @@ compared_with_unreduced-returns-in-Some-clause-order t c =
 
 pub first_at_most-at_most_unreduced-requires : goal.first_at_most-at_most_unreduced-requires
 first_at_most-at_most_unreduced-requires t c =
-    let index = index_of_item c.args.arena.now c.args.list.now c.loop-option.option-index _ c.requires.list c.loop-option-test.true refl in
-    let smaller = item_size c.args.arena.now c.args.list.now c.loop-option.option-index _ c.loop-option-test.true refl in
+    let index = index_of_item c.args.arena.now c.args.list.now c.loop-option.option-index _ c.requires.list c.loop-option-test.true (item_is c.args.list.now c.loop-option.option-index _ c.option-item.is c.loop-option-test.true) in
+    let smaller = item_size c.args.arena.now c.args.list.now c.loop-option.option-index _ c.loop-option-test.true (item_is c.args.list.now c.loop-option.option-index _ c.option-item.is c.loop-option-test.true) in
     search rules
 
 pub first_at_most-returns-then-branch-clause-some : goal.first_at_most-returns-then-branch-clause-some
 first_at_most-returns-then-branch-clause-some t c = (
-  index_of_item c.args.arena.now c.args.list.now c.loop-option.option-index _ c.requires.list c.loop-option-test.true refl,
-  item_among c.args.arena.now c.args.list.now c.loop-option.option-index _ c.loop-option-test.true refl,
+  index_of_item c.args.arena.now c.args.list.now c.loop-option.option-index _ c.requires.list c.loop-option-test.true (item_is c.args.list.now c.loop-option.option-index _ c.option-item.is c.loop-option-test.true),
+  item_among c.args.arena.now c.args.list.now c.loop-option.option-index _ c.loop-option-test.true (item_is c.args.list.now c.loop-option.option-index _ c.option-item.is c.loop-option-test.true),
   sym c.in_ok-at_most_unreduced.ensures.order ∙ c.if-branch.true,
 )
 
@@ -79,5 +79,5 @@ first_at_most-loop-option-preserved t c = record {
   known = c.at_most_unreduced.ensures.known;
   none = slice_miss c.args.arena.now (λ a. at_most c.args.left a (unreduced_game c.args.arena.now c.args.unreduced.now)) c.args.list.now
       c.loop-option.option-index _
-      c.loop-option-test.true refl c.loop-option.invariant.none (sym c.in_ok-at_most_unreduced.ensures.order ∙ c.if-branch.false);
+      c.loop-option-test.true (item_is c.args.list.now c.loop-option.option-index _ c.option-item.is c.loop-option-test.true) c.loop-option.invariant.none (sym c.in_ok-at_most_unreduced.ensures.order ∙ c.if-branch.false);
 }
