@@ -1,5 +1,5 @@
 //! The games of an arena, by their places.
-ghost use Rattle.std.specs.Prelude.{◌≡◌};
+ghost use Rattle.std.specs.Prelude.{◌≡◌, ◌<◌, ◌^◌};
 
 use std::marker::Model;
 
@@ -31,7 +31,8 @@ impl Game {
     /// Its place, for tables by place.
     #[inline(always)]
     pub fn place(self) -> usize
-        ensures { result ≡ self }
+        ensures place { result ≡ self }
+        ensures small { result < 2 ^ 32 }
     {
         self.place as usize
     }

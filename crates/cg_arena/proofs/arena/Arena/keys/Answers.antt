@@ -11,5 +11,5 @@ index-requires c =
 pub returns : goal.returns
 returns c =
     let f = entry_says c.self.inside c.args.self.now c.self.invariant c.self.view_is c.args.game c.index.result.now c.requires
-    (found_at c.self.inside.entries.items _ c.args.game _ c.index.ensures c.place.ensures) in
+    (found_at c.self.inside.entries.items _ c.args.game _ c.index.ensures c.place.ensures.place) in
     says_keys c.self.inside.options.items c.args.self.now c.index.result.now f.0 _ f.1

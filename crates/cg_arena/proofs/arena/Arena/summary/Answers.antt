@@ -11,8 +11,8 @@ index-requires c =
 
 pub returns-clause-summary : goal.returns-clause-summary
 returns-clause-summary c = summary_says c.self.inside c.args.self.now c.self.invariant c.self.view_is c.args.game c.index.result.now c.requires
-    (found_at c.self.inside.summaries.items _ c.args.game _ c.index.ensures c.place.ensures)
+    (found_at c.self.inside.summaries.items _ c.args.game _ c.index.ensures c.place.ensures.place)
 
 pub returns-clause-small : goal.returns-clause-small
 returns-clause-small c = summary_small c.self.inside c.args.self.now c.self.invariant c.self.view_is c.args.game c.index.result.now c.requires
-    (found_at c.self.inside.summaries.items _ c.args.game _ c.index.ensures c.place.ensures)
+    (found_at c.self.inside.summaries.items _ c.args.game _ c.index.ensures c.place.ensures.place)
