@@ -16,7 +16,7 @@ use Rattle.cg_arena.specs.Arena.{game_of, games_of}
 use Rattle.cg_arena.specs.declared.terms.FirstTerm.{FirstTerm}
 use Rattle.cg_arena.specs.Terms.{ApartByTerm, NoneComparable, NoneComparableByTerm, count_for}
 use Rattle.cg_arena.specs.Undominated.{Undominated}
-use Rattle.cg_arena.proofs.Keeping.{games_take_more}
+use Rattle.cg_arena.proofs.Keeping.{games_take_more, take_none}
 use Rattle.cg_arena.proofs.Slices.{games_pushed, member_of}
 use Rattle.cg_arena.proofs.Undominating.{apart_of, terms_put, terms_same, undominated_same_games}
 
@@ -24,10 +24,6 @@ use Rattle.cg_arena.proofs.Undominating.{apart_of, terms_put, terms_same, undomi
 pub record SoFar (gs : List Game) (left : Bool) (firsts seconds rest own : List ℕ) (i : ℕ) : Type 0 where
   pub own_are : All (Contains (take i firsts)) own
   pub undominated : Undominated left (games_of gs seconds ++ games_of gs (take i firsts)) (games_of gs rest ++ games_of gs own)
-
-take_none : (ps : List ℕ) → take 0 ps ≡ []
-take_none [] = refl
-take_none (p ∷ ps) = refl
 
 pub so_far_none : (gs : List Game) (left : Bool) (firsts seconds rest own : List ℕ) → NoneComparable (games_of gs seconds)
     → rest ≡ seconds → own ≡ [] → SoFar gs left firsts seconds rest own 0

@@ -19,6 +19,7 @@ use std::alloc::AllocError;
 /// Whether the player has no option in the list that is as good as x; with `left` the player is Left, and else Right
 /// with the order turned.
 #[cycle(found)]
+#[inline(always)]
 pub(crate) fn none_as_good(
     arena: &Arena,
     answers: &mut OrderMemo,
@@ -72,6 +73,7 @@ fn compared(arena: &Arena, answers: &mut OrderMemo, a: Game, b: Game) -> Result<
 /// Whether a <= b, by an answer that is kept, or from their options. The answer is kept, unless both games are light:
 /// these are compared again.
 #[cycle(found)]
+#[inline(never)]
 fn found(arena: &Arena, answers: &mut OrderMemo, a: Game, b: Game) -> Result<bool, AllocError>
     requires a { IsIndex arena.now a }
     requires b { IsIndex arena.now b }
@@ -93,6 +95,7 @@ fn found(arena: &Arena, answers: &mut OrderMemo, a: Game, b: Game) -> Result<boo
 /// Whether the game a is no better for the player than b; with `left` the player is Left, and else Right. The only
 /// error is want of memory. (Siegel, Combinatorial Game Theory (2013), I.1 and II.1.)
 #[cycle(found)]
+#[inline(always)]
 pub fn at_most(
     arena: &Arena,
     answers: &mut OrderMemo,

@@ -9,7 +9,7 @@ ghost use Rattle.cg_arena.specs.Terms.{ApartByTerm, NoneComparable};
 ghost use Rattle.cg_arena.specs.Undominated.{Undominated};
 
 use crate::arena::Arena;
-use crate::best::{others, undominated};
+use crate::best::{take_out, undominated};
 use crate::game::Game;
 use crate::order::none_as_good;
 use crate::order_memo::OrderMemo;
@@ -41,7 +41,7 @@ fn undominated_of_terms(
     push_options(&mut rest, seconds)?;
     for x in firsts {
         if none_as_good(arena, answers, left, *x, rest.as_slice())? {
-            rest = others(arena, answers, left, rest.as_slice(), *x)?;
+            take_out(arena, answers, left, &mut rest, *x)?;
             push_option(&mut own, *x)?;
         }
     }
