@@ -16,7 +16,7 @@ use Rattle.cg_arena.specs.Arena.{game_of, games_of}
 use Rattle.cg_arena.specs.declared.terms.FirstTerm.{FirstTerm}
 use Rattle.cg_arena.specs.Terms.{ApartByTerm, NoneComparable, NoneComparableByTerm, count_for}
 use Rattle.cg_arena.specs.Undominated.{Undominated}
-use Rattle.cg_arena.proofs.Keeping.{games_take_more}
+use Rattle.cg_arena.proofs.Keeping.{games_take_more, take_none}
 use Rattle.cg_arena.proofs.Slices.{games_pushed, member_of}
 use Rattle.cg_arena.proofs.Undominating.{apart_of, terms_put, terms_same, undominated_same_games}
 
@@ -24,10 +24,6 @@ use Rattle.cg_arena.proofs.Undominating.{apart_of, terms_put, terms_same, undomi
 pub record SoFar (gs : List Game) (left : Bool) (firsts seconds rest own : List ℕ) (i : ℕ) : Type 0 where
   pub own_are : All (Contains (take i firsts)) own
   pub undominated : Undominated left (games_of gs seconds ++ games_of gs (take i firsts)) (games_of gs rest ++ games_of gs own)
-
-take_none : (ps : List ℕ) → take 0 ps ≡ []
-take_none [] = refl
-take_none (p ∷ ps) = refl
 
 pub so_far_none : (gs : List Game) (left : Bool) (firsts seconds rest own : List ℕ) → NoneComparable (games_of gs seconds)
     → rest ≡ seconds → own ≡ [] → SoFar gs left firsts seconds rest own 0
@@ -81,10 +77,11 @@ still_are firsts own i l a =
     (λ x m. Contains-append_left (take i firsts) (get_or firsts i 0 ∷ []) x m) own a)
 
 -- one of the rest is as good as the next
-pub so_far_same : (gs : List Game) (left : Bool) (firsts seconds rest own : List ℕ) (i : ℕ) → SoFar gs left firsts seconds rest own i
-    → i < length firsts → no_one (at_most left (game_of gs (get_or firsts i 0))) (games_of gs rest) ≡ false
+pub so_far_same : (gs : List Game) (left : Bool) (firsts seconds rest own : List ℕ) (i k : ℕ) → SoFar gs left firsts seconds rest own i
+    → i < length firsts → k ≡ get_or firsts i 0 → no_one (at_most left (game_of gs k)) (games_of gs rest) ≡ false
     → SoFar gs left firsts seconds rest own (i + 1)
-so_far_same gs left firsts seconds rest own i h l some =
+so_far_same gs left firsts seconds rest own i k h l is beaten =
+    let some = ap (λ z. no_one (at_most left (game_of gs z)) (games_of gs rest)) (sym is) ∙ beaten in
     record {
       own_are = still_are firsts own i l h.own_are;
       undominated = rw (← (one_more gs firsts i (games_of gs seconds) l))
@@ -93,13 +90,16 @@ so_far_same gs left firsts seconds rest own i h l some =
     }
 
 -- none is, and the rest is left without those that are at most the next
-pub so_far_more : (gs : List Game) (left : Bool) (firsts seconds rest own less more : List ℕ) (i : ℕ)
-    → NoneComparable (games_of gs firsts) → SoFar gs left firsts seconds rest own i → i < length firsts
-    → no_one (at_most left (game_of gs (get_or firsts i 0))) (games_of gs rest) ≡ true
-    → games_of gs less ≡ keep (λ c. not (at_most left c (game_of gs (get_or firsts i 0)))) (games_of gs rest)
-    → more ≡ own ++ get_or firsts i 0 ∷ [] → SoFar gs left firsts seconds less more (i + 1)
-so_far_more gs left firsts seconds rest own less more i none h l best kept e =
+pub so_far_more : (gs : List Game) (left : Bool) (firsts seconds rest own less more : List ℕ) (i k : ℕ)
+    → NoneComparable (games_of gs firsts) → SoFar gs left firsts seconds rest own i → i < length firsts → k ≡ get_or firsts i 0
+    → no_one (at_most left (game_of gs k)) (games_of gs rest) ≡ true
+    → games_of gs less ≡ keep (λ c. not (at_most left c (game_of gs k))) (games_of gs rest)
+    → more ≡ own ++ k ∷ [] → SoFar gs left firsts seconds less more (i + 1)
+so_far_more gs left firsts seconds rest own less more i k none h l is unbeaten left_over pushed =
     let p = get_or firsts i 0 in
+    let best = ap (λ z. no_one (at_most left (game_of gs z)) (games_of gs rest)) (sym is) ∙ unbeaten in
+    let kept = left_over ∙ ap (λ z. keep (λ c. not (at_most left c (game_of gs z))) (games_of gs rest)) is in
+    let e = pushed ∙ ap (λ z. own ++ z ∷ []) is in
     let x = game_of gs p in
     let ss = games_of gs seconds in
     record {

@@ -148,6 +148,9 @@ pub some_at : {X : Type 0} (xs : List X) (i : ℕ) → i < length xs → (x : X)
 some_at [] i h = absurd (omega arith)
 some_at (x ∷ xs) i h = (get_or (x ∷ xs) i x, get_or_default (x ∷ xs) i x (get_or (x ∷ xs) i x) h)
 
+pub found_at : {X : Type 0} (xs : List X) (i j : ℕ) (x : X) → x ≡ get_or xs i x → i ≡ j → x ≡ get_or xs j x
+found_at xs i j x h e = h ∙ ap (λ z. get_or xs z x) e
+
 module _ (b : Inside) (gs : List Game) (h : IsArena b.options.items b.entries.items b.summaries.items)
     (e : said_by b.options.items [] (zip b.entries.items b.summaries.items) ≡ gs) where
   abbrev all : List (Entry × Summary)
@@ -160,6 +163,12 @@ module _ (b : Inside) (gs : List Game) (h : IsArena b.options.items b.entries.it
       let m = ap length e in
       let o = h.one_each in
       omega arith
+
+  pub few : length gs ≤ 2 ^ 32
+  few =
+      let f = few_said b.options.items [] all h.written in
+      let P : List Game → Type 0 = λ z. length z ≤ 2 ^ 32 in
+      subst P e f
 
   pub both_say : (i : ℕ) (p : Entry) (f : Summary) → i < length gs → p ≡ get_or b.entries.items i p → f ≡ get_or b.summaries.items i f
       → Says b.options.items gs p f (game_of gs i)

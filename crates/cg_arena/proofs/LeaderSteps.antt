@@ -57,21 +57,24 @@ leads_next gs s ps i g h l so_far inside past own =
       ];
     })
 
-pub next_leads : (gs : List Game) (s : Bool) (ps : List ℕ) (i index next : ℕ) → i < length ps → AreIndexes gs ps
-    → IsLeader gs s ps i index → NoFurther s (game_of gs index) (game_of gs (get_or ps i 0)) → next ≡ get_or ps i 0
+pub next_leads : (gs : List Game) (s : Bool) (ps : List ℕ) (i index k next : ℕ) → i < length ps → AreIndexes gs ps
+    → IsLeader gs s ps i index → k ≡ get_or ps i 0 → NoFurther s (game_of gs index) (game_of gs k) → next ≡ k
     → IsLeader gs s ps (i + 1) next
-next_leads gs s ps i index next l a h past e =
+next_leads gs s ps i index k next l a h is furthest e =
     let own = get_or ps i 0 in
-    rw e (
+    let P : ℕ → Type 0 = λ z. NoFurther s (game_of gs index) (game_of gs z) in
+    let past = subst P is furthest in
+    rw (e ∙ is) (
       index_of_item gs ps i own a l refl,
       leads_next gs s ps i (game_of gs index) (game_of gs own) l h.1 (item_among gs ps i own l refl) past (λ x t. t),
     )
 
-pub still_leads : (gs : List Game) (s : Bool) (ps : List ℕ) (i index next : ℕ) → i < length ps → IsLeader gs s ps i index
-    → NoFurther s (game_of gs (get_or ps i 0)) (game_of gs index) → next ≡ index → IsLeader gs s ps (i + 1) next
-still_leads gs s ps i index next l h own e =
+pub still_leads : (gs : List Game) (s : Bool) (ps : List ℕ) (i index k next : ℕ) → i < length ps → IsLeader gs s ps i index
+    → k ≡ get_or ps i 0 → NoFurther s (game_of gs k) (game_of gs index) → next ≡ index → IsLeader gs s ps (i + 1) next
+still_leads gs s ps i index k next l h is own e =
     let g = game_of gs index in
-    rw e (h.0, leads_next gs s ps i g g l h.1 h.1.inside (λ x t. t) own)
+    let P : ℕ → Type 0 = λ z. NoFurther s (game_of gs z) g in
+    rw e (h.0, leads_next gs s ps i g g l h.1 h.1.inside (λ x t. t) (subst P is own))
 
 furthest_cut : (s : Bool) (gs : List Game) (g : Game) (p : Summary) (c : Cut) → Leads s gs gs g → IsSummary g p
     → c ≡ chosen_cut s p.low p.high → CutOf AnyNumber s (Some c) gs
@@ -94,10 +97,12 @@ leader_cut gs s ps i index p c l h k e =
 
 -- ---- the greatest depth
 
-pub deepest_next : (gs : List Game) (ps : List ℕ) (i : ℕ) (p : Summary) (m n : ℕ) → i < length ps
-    → m ≡ deepest (games_of gs (take i ps)) → IsSummary (game_of gs (get_or ps i 0)) p → n ≡ max p.depth m
+pub deepest_next : (gs : List Game) (ps : List ℕ) (i own : ℕ) (p : Summary) (m n : ℕ) → i < length ps
+    → m ≡ deepest (games_of gs (take i ps)) → own ≡ get_or ps i 0 → IsSummary (game_of gs own) p → n ≡ max p.depth m
     → n ≡ deepest (games_of gs (take (i + 1) ps))
-deepest_next gs ps i p m n l so_far k e =
+deepest_next gs ps i own p m n l so_far is known e =
+    let P : ℕ → Type 0 = λ z. IsSummary (game_of gs z) p in
+    let k = subst P is known in
     let d = deepest-last (games_of gs (take i ps)) (game_of gs (get_or ps i 0)) in
     let f : n ≡ max (deepest (games_of gs (take i ps))) (depth_of (game_of gs (get_or ps i 0))) = omega (arith, k.depth) in
     f ∙ sym d ∙ sym (ap deepest (next_games gs ps i l))

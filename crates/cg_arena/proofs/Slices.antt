@@ -11,6 +11,10 @@ use Rattle.cg_form.specs.Size.{list_size, size}
 use Rattle.cg_arena.specs.Arena.{AreIndexes, IsIndex, game_of, games_of}
 use Rattle.cg_arena.proofs.Profiling.{no_one-last}
 
+-- an item, read with another default
+pub item_is : (ps : List ℕ) (i k : ℕ) → k ≡ get_or ps i k → i < length ps → k ≡ get_or ps i 0
+item_is ps i k e l = e ∙ get_or_default ps i k 0 l
+
 pub index_of_item : (gs : List Game) (ps : List ℕ) (i k : ℕ) → AreIndexes gs ps → i < length ps → k ≡ get_or ps i 0 → IsIndex gs k
 index_of_item gs ps i k a h e = rw e (a i 0 h)
 

@@ -6,7 +6,7 @@ use Rattle.cg_form.specs.Game as tree
 use Rattle.cg_form.specs.Game.{node, number}
 use Rattle.cg_arena.specs.declared.arena.Entry.{Entry}
 use Rattle.cg_arena.specs.declared.arena.Read.{Read}
-use Rattle.cg_arena.specs.declared.arena.Read.TheVariants.{Number, Game}
+use Rattle.cg_arena.specs.declared.arena.Read.TheVariants.{Number, Options}
 use Rattle.cg_arena.specs.declared.summary.Summary.{Summary}
 use Rattle.cg_arena.specs.Keys.{AreKeys}
 use Rattle.cg_arena.specs.Summaries.{IsSummary}
@@ -31,7 +31,7 @@ StandFor gs ps hs = AreIndexes gs ps × (games_of gs ps ≡ hs)
 -- what was read of the game at an index
 abbrev pub IsRead : List tree.Game → Read → tree.Game → Type 0
 IsRead gs (Number x) g = g ≡ number x
-IsRead gs (Game ls rs) g = AreIndexes gs ls.now × AreIndexes gs rs.now × (g ≡ node (games_of gs ls.now) (games_of gs rs.now))
+IsRead gs (Options ls rs) g = AreIndexes gs ls.now × AreIndexes gs rs.now × (g ≡ node (games_of gs ls.now) (games_of gs rs.now))
 
 -- ---- how the arena has them
 

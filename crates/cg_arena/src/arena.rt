@@ -1,15 +1,21 @@
-//! An arena: interned games, each at its index.
-ghost use Rattle.std.specs.Prelude.{◌≡◌, ◌<◌, ◌≤◌, ◌^◌, ◌++◌, ◌∷◌, [], length, is_ok, if◌then◌else◌, IfOk, OnErr};
+//! An arena: interned games, each at its place.
+ghost use Rattle.std.specs.Prelude.{◌≡◌, ◌<◌, ◌≤◌, ◌^◌, ◌++◌, ◌∷◌, [], length, is_ok, if◌then◌else◌};
+ghost use Rattle.std.specs.Prelude.{IfNone, IfOk, IfSome, OnErr};
 ghost use Rattle.std.specs.List.{slice_range};
 ghost use Rattle.cg_form.specs.Canonical.{Canonical};
 ghost use Rattle.cg_form.specs.Game.{node, number};
+ghost use Rattle.cg_form.specs.Order.{le};
+ghost use Rattle.cg_arena.specs.Costs.{IsCharge};
 ghost use Rattle.cg_arena.specs.Keys.{HasKeys};
 ghost use Rattle.cg_arena.specs.Arena.{AreIndexes, IsIndex, IsRead, game_of, games_of};
 ghost use Rattle.cg_arena.specs.Summaries.{IsSummary};
 
+use crate::charge::Charge;
+use crate::game::Game;
 use crate::keys::Keys;
 use crate::summary::Summary;
 use cg_dyadic::Dyadic;
+use cg_form::cuts::in_cut;
 use std::alloc::{AllocError, Global};
 use std::marker::Model;
 
@@ -30,22 +36,22 @@ pub(crate) struct Entry {
     weight: u8,
 }
 
-/// A number, or the indexes of the Left and of the Right options of another game.
+/// A number, or the Left and the Right options of another game.
 #[derive(Clone, Copy)]
 pub enum Read<'a> {
     Number(Dyadic),
-    Game(&'a [u32], &'a [u32]),
+    Options(&'a [Game], &'a [Game]),
 }
 
-/// Games in canonical form, each at an index. The indexes are counted from 0, and those of the options of a game come
+/// Games in canonical form, each at a place. The places are counted from 0, and those of the options of a game come
 /// before its own. Contracts see the list of games.
 #[derive(Drop)]
 pub struct Arena {
     entries: Vec<Entry>,
-    /// What is known of the game at each index besides its options. It stands apart, since a comparison reads the keys
+    /// What is known of the game at each place besides its options. It stands apart, since a comparison reads the keys
     /// alone.
     summaries: Vec<Summary>,
-    options: Vec<u32>,
+    options: Vec<Game>,
 }
 
 /// The greatest weight of a light game. Two light games are compared in a few steps.
@@ -54,11 +60,11 @@ const LIGHT: u8 = 8;
 impl Model for Arena {
     ghost use Rattle.std.specs.Prelude.{List, [], zip};
     ghost use Rattle.std.specs.Coded.{coded_list};
-    ghost use Rattle.cg_form.specs.Game.{Game};
+    ghost use Rattle.cg_form.specs.Game as tree;
     ghost use Rattle.cg_form.specs.GameCode.{game_code};
     ghost use Rattle.cg_arena.specs.Arena.{IsArena, said_by};
 
-    ghost Value = { List Game };
+    ghost Value = { List tree.Game };
 
     ghost coded = { coded_list game_code };
 
@@ -69,7 +75,7 @@ impl Model for Arena {
 
 /// The part of the list from one place up to another.
 #[inline]
-fn part(list: &[u32], from: usize, to: usize) -> &[u32]
+fn part(list: &[Game], from: usize, to: usize) -> &[Game]
     requires from { from ≤ to }
     requires to { to ≤ length list.now }
     ensures { result.now ≡ slice_range list.now from to }
@@ -78,13 +84,13 @@ fn part(list: &[u32], from: usize, to: usize) -> &[u32]
 }
 
 /// The weight, and those of the games of the options, as far as the sum is light.
-fn weight_with(entries: &[Entry], options: &[u32], weight: u8) -> u8 {
+fn weight_with(entries: &[Entry], options: &[Game], weight: u8) -> u8 {
     let mut sum = weight;
     for option in options {
         if sum > LIGHT {
             return sum;
         }
-        if let Some(entry) = entries.get(*option as usize) {
+        if let Some(entry) = entries.get(option.place()) {
             sum = sum.saturating_add(entry.weight);
         }
     }
@@ -123,14 +129,15 @@ impl Arena {
         }
     }
 
-    /// Adds a number, at the next index. The only error is want of memory.
-    pub fn add_number(&mut self, x: Dyadic) -> Result<u32, AllocError>
+    /// Adds a number, at the next place. The only error is want of memory.
+    pub fn add_number(&mut self, x: Dyadic) -> Result<Game, AllocError>
         requires few { length self.old < 2 ^ 32 }
         ensures index { IfOk result (λ p. p ≡ length self.old) }
         ensures games { IfOk result (λ _. self.new ≡ self.old ++ (number x ∷ [])) }
         ensures same { OnErr result (self.new ≡ self.old) }
     {
         let count = self.entries.len();
+        let game = Game::at(count as u32);
         let end = self.options.len();
         let summary = Summary::number(x);
         let entry = Entry {
@@ -142,17 +149,17 @@ impl Arena {
             weight: 1,
         };
         add(&mut self.entries, &mut self.summaries, entry, &summary)?;
-        Ok(count as u32)
+        Ok(game)
     }
 
-    /// Adds the game with these options and this summary, at the next index. The only error is want of memory.
+    /// Adds the game with these options and this summary, at the next place. The only error is want of memory.
     #[inline(always)]
     pub fn add_game(
         &mut self,
-        lefts: &[u32],
-        rights: &[u32],
+        lefts: &[Game],
+        rights: &[Game],
         summary: &Summary,
-    ) -> Result<u32, AllocError>
+    ) -> Result<Game, AllocError>
         requires few { length self.old < 2 ^ 32 }
         requires lefts { AreIndexes self.old lefts.now }
         requires rights { AreIndexes self.old rights.now }
@@ -164,6 +171,7 @@ impl Arena {
         ensures same { OnErr result (self.new ≡ self.old) }
     {
         let count = self.entries.len();
+        let game = Game::at(count as u32);
         let first = self.options.len();
         let middle = first + lefts.len();
         let end = middle + rights.len();
@@ -179,7 +187,7 @@ impl Arena {
             weight,
         };
         add(&mut self.entries, &mut self.summaries, entry, summary)?;
-        Ok(count as u32)
+        Ok(game)
     }
 
     /// How many there are.
@@ -189,45 +197,86 @@ impl Arena {
         self.entries.len()
     }
 
-    /// Whether the game at the index has so few positions that no answer about it has to be kept.
-    #[inline]
-    pub(crate) fn is_light(&self, index: u32) -> bool
-        requires { IsIndex self.now index }
+    /// The game at the place, if there is one.
+    #[inline(always)]
+    pub fn at(&self, place: usize) -> Option<Game>
+        ensures some { IfSome result (λ game. (game ≡ place) × IsIndex self.now game) }
+        ensures none { IfNone result (length self.now ≤ place) }
     {
-        self.entries[index as usize].weight <= LIGHT
+        if place < self.entries.len() {
+            return Some(Game::at(place as u32));
+        }
+        None
     }
 
-    /// What the entry at the index says.
+    /// Whether the game has so few positions that no answer about it has to be kept.
     #[inline]
-    pub fn read(&self, index: u32) -> Read<'_>
-        requires { IsIndex self.now index }
-        ensures read { IsRead self.now result (game_of self.now index) }
-        ensures canonical { Canonical (game_of self.now index) }
+    pub(crate) fn is_light(&self, game: Game) -> bool
+        requires { IsIndex self.now game }
     {
-        let found = &self.entries[index as usize];
+        self.entries[game.place()].weight <= LIGHT
+    }
+
+    /// The game: a number, or its Left and its Right options.
+    #[inline]
+    pub fn read(&self, game: Game) -> Read<'_>
+        requires { IsIndex self.now game }
+        ensures read { IsRead self.now result (game_of self.now game) }
+        ensures canonical { Canonical (game_of self.now game) }
+    {
+        let at = game.place();
+        let found = &self.entries[at];
         if found.is_number {
-            return Read::Number(self.summaries[index as usize].low.at);
+            return Read::Number(self.summaries[at].low.at);
         }
         let lefts = part(&self.options, found.lefts, found.rights);
         let rights = part(&self.options, found.rights, found.end);
-        Read::Game(lefts, rights)
+        Read::Options(lefts, rights)
     }
 
-    /// What is known of the game at the index besides its options.
-    pub fn summary(&self, index: u32) -> &Summary
-        requires { IsIndex self.now index }
-        ensures summary { IsSummary (game_of self.now index) result.now }
+    /// What is known of the game besides its options.
+    pub fn summary(&self, game: Game) -> &Summary
+        requires { IsIndex self.now game }
+        ensures summary { IsSummary (game_of self.now game) result.now }
         ensures small { result.now.depth ≤ 2 ^ 32 }
     {
-        &self.summaries[index as usize]
+        &self.summaries[game.place()]
     }
 
-    /// Where the cuts of the game at the index lie.
-    #[inline]
-    pub(crate) fn keys(&self, index: u32) -> &Keys
-        requires { IsIndex self.now index }
-        ensures { HasKeys (game_of self.now index) result.now }
+    /// What the game's item is charged by.
+    #[inline(always)]
+    pub fn charge(&self, game: Game) -> Charge
+        requires { IsIndex self.now game }
+        ensures { IsCharge (game_of self.now game) result }
     {
-        &self.entries[index as usize].keys
+        self.summary(game).charge()
+    }
+
+    /// Whether x is at most the game. No number is counted down: x is compared with the cut that the game makes among
+    /// the numbers.
+    #[inline(always)]
+    pub fn number_le(&self, x: Dyadic, game: Game) -> bool
+        requires { IsIndex self.now game }
+        ensures { result ≡ le (number x) (game_of self.now game) }
+    {
+        in_cut(true, &self.summary(game).low, x)
+    }
+
+    /// Whether the game is at most x.
+    #[inline(always)]
+    pub fn le_number(&self, game: Game, x: Dyadic) -> bool
+        requires { IsIndex self.now game }
+        ensures { result ≡ le (game_of self.now game) (number x) }
+    {
+        in_cut(false, &self.summary(game).high, x)
+    }
+
+    /// Where the cuts of the game lie.
+    #[inline]
+    pub(crate) fn keys(&self, game: Game) -> &Keys
+        requires { IsIndex self.now game }
+        ensures { HasKeys (game_of self.now game) result.now }
+    {
+        &self.entries[game.place()].keys
     }
 }

@@ -13,6 +13,7 @@ ghost use Rattle.cg_arena.specs.OrderMemos.{AreRight};
 ghost use Rattle.cg_arena.specs.Undominated.{Undominated, with_last};
 
 use crate::arena::Arena;
+use crate::game::Game;
 use crate::order::{at_most, none_as_good};
 use crate::order_memo::OrderMemo;
 use crate::ranked::furthest_first;
@@ -21,30 +22,32 @@ use crate::substitutes::{FEW, Options, push_option};
 use smallvec::SmallVec;
 use std::alloc::AllocError;
 
-/// The items that are not at most x for the player.
+/// Takes the items that are at most x for the player out of the list. The others keep their order.
 #[inline(always)]
-pub(crate) fn others(
+pub(crate) fn take_out(
     arena: &Arena,
     answers: &mut OrderMemo,
     left: bool,
-    items: &[u32],
-    x: u32,
-) -> Result<Options, AllocError>
-    requires items { AreIndexes arena.now items.now }
+    items: &mut Options,
+    x: Game,
+) -> Result<(), AllocError>
+    requires items { AreIndexes arena.now items.old.items }
     requires x { IsIndex arena.now x }
     requires right { AreRight arena.now answers.old }
-    ensures indexes { IfOk result (λ r. AreIndexes arena.now r.items) }
-    ensures kept { IfOk result (λ r. games_of arena.now r.items
-        ≡ keep (λ c. not (at_most_for left c (game_of arena.now x))) (games_of arena.now items.now)) }
+    ensures indexes { IfOk result (λ _. AreIndexes arena.now items.new.items) }
+    ensures kept { IfOk result (λ _. games_of arena.now items.new.items
+        ≡ keep (λ c. not (at_most_for left c (game_of arena.now x))) (games_of arena.now items.old.items)) }
     ensures right { AreRight arena.now answers.new }
 {
-    let mut rest = SmallVec::new(answers.alloc());
-    for other in items {
-        if !at_most(arena, answers, left, *other, x)? {
-            push_option(&mut rest, *other)?;
+    let mut at = 0;
+    while at < items.len() {
+        if at_most(arena, answers, left, items.as_slice()[at], x)? {
+            items.remove(at);
+        } else {
+            at += 1;
         }
     }
-    Ok(rest)
+    Ok(())
 }
 
 /// The best of some games, and how far they go.
@@ -60,8 +63,8 @@ fn last_beats(
     arena: &Arena,
     answers: &mut OrderMemo,
     left: bool,
-    x: u32,
-    items: &[u32],
+    x: Game,
+    items: &[Game],
 ) -> Result<bool, AllocError>
     requires x { IsIndex arena.now x }
     requires items { AreIndexes arena.now items.now }
@@ -82,8 +85,8 @@ fn none_beats(
     arena: &Arena,
     answers: &mut OrderMemo,
     left: bool,
-    x: u32,
-    items: &[u32],
+    x: Game,
+    items: &[Game],
     bounds: &Bounds,
 ) -> Result<bool, AllocError>
     requires x { IsIndex arena.now x }
@@ -103,58 +106,55 @@ fn none_beats(
     none_as_good(arena, answers, left, x, items)
 }
 
-/// The items that are not at most x for the player, where these are their bounds.
-fn others_bounded(
+/// Takes the items that are at most x for the player out of the list, where these are the bounds of the items.
+fn take_out_bounded(
     arena: &Arena,
     answers: &mut OrderMemo,
     left: bool,
-    items: Options,
-    x: u32,
+    items: &mut Options,
+    x: Game,
     bounds: &Bounds,
-) -> Result<Options, AllocError>
-    requires items { AreIndexes arena.now items.items }
+) -> Result<(), AllocError>
+    requires items { AreIndexes arena.now items.old.items }
     requires x { IsIndex arena.now x }
-    requires bounds { AreBounds (games_of arena.now items.items) bounds.now }
+    requires bounds { AreBounds (games_of arena.now items.old.items) bounds.now }
     requires right { AreRight arena.now answers.old }
-    ensures indexes { IfOk result (λ r. AreIndexes arena.now r.items) }
-    ensures kept { IfOk result (λ r. games_of arena.now r.items
-        ≡ keep (λ c. not (at_most_for left c (game_of arena.now x))) (games_of arena.now items.items)) }
+    ensures indexes { IfOk result (λ _. AreIndexes arena.now items.new.items) }
+    ensures kept { IfOk result (λ _. games_of arena.now items.new.items
+        ≡ keep (λ c. not (at_most_for left c (game_of arena.now x))) (games_of arena.now items.old.items)) }
     ensures right { AreRight arena.now answers.new }
 {
     if bounds.are_passed(!left, arena.keys(x)) {
-        return Ok(items);
+        return Ok(());
     }
-    others(arena, answers, left, items.as_slice(), x)
+    take_out(arena, answers, left, items, x)
 }
 
-/// The best of some games and x, from the best of them.
-fn with_one(
+/// Puts x to the best of some games, so that the best of all of them stand there.
+fn put_one(
     arena: &Arena,
     answers: &mut OrderMemo,
     left: bool,
-    best: Chosen,
-    x: u32,
-) -> Result<Chosen, AllocError>
+    best: &mut Chosen,
+    x: Game,
+) -> Result<(), AllocError>
     requires x { IsIndex arena.now x }
-    requires best { AreIndexes arena.now best.items.items }
-    requires bounds { AreBounds (games_of arena.now best.items.items) best.bounds }
+    requires best { AreIndexes arena.now best.old.items.items }
+    requires bounds { AreBounds (games_of arena.now best.old.items.items) best.old.bounds }
     requires right { AreRight arena.now answers.old }
-    ensures indexes { IfOk result (λ r. AreIndexes arena.now r.items.items) }
-    ensures best { IfOk result (λ r. games_of arena.now r.items.items
-        ≡ with_last left (games_of arena.now best.items.items) (game_of arena.now x)) }
-    ensures bounds { IfOk result (λ r. AreBounds (games_of arena.now r.items.items) r.bounds) }
+    ensures indexes { IfOk result (λ _. AreIndexes arena.now best.new.items.items) }
+    ensures best { IfOk result (λ _. games_of arena.now best.new.items.items
+        ≡ with_last left (games_of arena.now best.old.items.items) (game_of arena.now x)) }
+    ensures bounds { IfOk result (λ _. AreBounds (games_of arena.now best.new.items.items) best.new.bounds) }
     ensures right { AreRight arena.now answers.new }
 {
-    let Chosen { items, bounds } = best;
-    if !none_beats(arena, answers, left, x, items.as_slice(), &bounds)? {
-        return Ok(Chosen { items, bounds });
+    if !none_beats(arena, answers, left, x, best.items.as_slice(), &best.bounds)? {
+        return Ok(());
     }
-    let mut all = others_bounded(arena, answers, left, items, x, &bounds)?;
-    push_option(&mut all, x)?;
-    Ok(Chosen {
-        items: all,
-        bounds: bounds.with(arena.keys(x)),
-    })
+    take_out_bounded(arena, answers, left, &mut best.items, x, &best.bounds)?;
+    push_option(&mut best.items, x)?;
+    best.bounds = best.bounds.with(arena.keys(x));
+    Ok(())
 }
 
 /// The best of the items for the player, in no order: one after the other.
@@ -162,7 +162,7 @@ fn undominated_in_turn(
     arena: &Arena,
     answers: &mut OrderMemo,
     left: bool,
-    items: &[u32],
+    items: &[Game],
 ) -> Result<Options, AllocError>
     requires items { AreIndexes arena.now items.now }
     requires right { AreRight arena.now answers.old }
@@ -176,7 +176,7 @@ fn undominated_in_turn(
         bounds: Bounds::none(),
     };
     for x in items {
-        best = with_one(arena, answers, left, best, *x)?;
+        put_one(arena, answers, left, &mut best, *x)?;
     }
     let Chosen { items, bounds: _ } = best;
     Ok(items)
@@ -187,7 +187,7 @@ pub(crate) fn undominated(
     arena: &Arena,
     answers: &mut OrderMemo,
     left: bool,
-    items: &[u32],
+    items: &[Game],
 ) -> Result<Options, AllocError>
     requires items { AreIndexes arena.now items.now }
     requires right { AreRight arena.now answers.old }

@@ -13,6 +13,7 @@ ghost use Rattle.cg_arena.specs.Arena.{AreIndexes, IsIndex, game_of, games_of};
 ghost use Rattle.cg_arena.specs.UnreducedGames.{AreKnown, unreduced_game};
 
 use crate::arena::{Arena, Read};
+use crate::game::Game;
 use crate::order_memo::OrderMemo;
 use crate::staying::reverser;
 use crate::substitutes::{Options, Substitutes};
@@ -28,7 +29,7 @@ fn bypass_through(
     unreduced: &Unreduced,
     verdicts: &mut Verdicts,
     left: bool,
-    answer: u32,
+    answer: Game,
     out: &mut Substitutes,
 ) -> Result<(), AllocError>
     requires known { AreKnown arena.now unreduced.now answers.old verdicts.old }
@@ -41,7 +42,7 @@ fn bypass_through(
 {
     match arena.read(answer) {
         Read::Number(_) => out.push(answer),
-        Read::Game(lefts, rights) => {
+        Read::Options(lefts, rights) => {
             let near = chosen(left, lefts, rights);
             bypass_list(arena, answers, unreduced, verdicts, left, near, out)
         }
@@ -56,7 +57,7 @@ fn bypass(
     unreduced: &Unreduced,
     verdicts: &mut Verdicts,
     left: bool,
-    option: u32,
+    option: Game,
     out: &mut Substitutes,
 ) -> Result<(), AllocError>
     requires known { AreKnown arena.now unreduced.now answers.old verdicts.old }
@@ -81,7 +82,7 @@ fn bypass_once(
     unreduced: &Unreduced,
     verdicts: &mut Verdicts,
     left: bool,
-    option: u32,
+    option: Game,
     out: &mut Substitutes,
 ) -> Result<(), AllocError>
     requires known { AreKnown arena.now unreduced.now answers.old verdicts.old }
@@ -107,7 +108,7 @@ fn bypass_list(
     unreduced: &Unreduced,
     verdicts: &mut Verdicts,
     left: bool,
-    list: &[u32],
+    list: &[Game],
     out: &mut Substitutes,
 ) -> Result<(), AllocError>
     requires known { AreKnown arena.now unreduced.now answers.old verdicts.old }

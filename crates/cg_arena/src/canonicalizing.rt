@@ -1,7 +1,8 @@
 //! What the game of two lists of indexes is: a number, or the canonical form of a game that equals none.
 ghost use Rattle.std.specs.Prelude.{IfOk, ◌≡◌};
 ghost use Rattle.cg_form.specs.Canonical.{IsCanonicalForm};
-ghost use Rattle.cg_form.specs.Game.{Game, node};
+ghost use Rattle.cg_form.specs.Game as tree;
+ghost use Rattle.cg_form.specs.Game.{node};
 ghost use Rattle.cg_form.specs.Simple.{NoNumber};
 ghost use Rattle.cg_arena.specs.Arena.{AreIndexes, games_of};
 ghost use Rattle.cg_arena.specs.Summaries.{HasCuts, IsSummary};
@@ -10,6 +11,7 @@ ghost use Rattle.cg_arena.specs.Canonicalized.{IsNewForm, IsCanonicalized};
 ghost use Rattle.cg_arena.specs.Terms.{ApartByTerm};
 
 use crate::arena::Arena;
+use crate::game::Game;
 use crate::order_memo::OrderMemo;
 use crate::reduce::{Form, put_reduced};
 use crate::summarizing::{cut_of, summary_between, summary_with};
@@ -45,8 +47,8 @@ pub enum Canonicalized {
 fn form_of(
     arena: &Arena,
     answers: &mut OrderMemo,
-    lefts: &[u32],
-    rights: &[u32],
+    lefts: &[Game],
+    rights: &[Game],
     summary: &Summary,
     first_term: Option<FirstTerm>,
 ) -> Result<NewForm, AllocError>
@@ -56,7 +58,7 @@ fn form_of(
     requires cuts { HasCuts (node (games_of arena.now lefts.now) (games_of arena.now rights.now)) summary.now }
     requires terms { ApartByTerm first_term (games_of arena.now lefts.now) (games_of arena.now rights.now) }
     requires right { AreRight arena.now answers.old }
-    ensures form { (k : Game) → IsCanonicalForm (node (games_of arena.now lefts.now) (games_of arena.now rights.now)) k
+    ensures form { (k : tree.Game) → IsCanonicalForm (node (games_of arena.now lefts.now) (games_of arena.now rights.now)) k
         → IfOk result (IsNewForm arena.now k) }
     ensures right { AreRight arena.now answers.new }
 {
@@ -89,15 +91,15 @@ fn form_of(
 pub fn canonicalize(
     arena: &Arena,
     answers: &mut OrderMemo,
-    lefts: &[u32],
-    rights: &[u32],
+    lefts: &[Game],
+    rights: &[Game],
     first_term: Option<FirstTerm>,
 ) -> Result<Canonicalized, AllocError>
     requires lefts { AreIndexes arena.now lefts.now }
     requires rights { AreIndexes arena.now rights.now }
     requires terms { ApartByTerm first_term (games_of arena.now lefts.now) (games_of arena.now rights.now) }
     requires right { AreRight arena.now answers.old }
-    ensures canonicalized { (k : Game) → IsCanonicalForm (node (games_of arena.now lefts.now) (games_of arena.now rights.now)) k
+    ensures canonicalized { (k : tree.Game) → IsCanonicalForm (node (games_of arena.now lefts.now) (games_of arena.now rights.now)) k
         → IfOk result (IsCanonicalized arena.now k) }
     ensures right { AreRight arena.now answers.new }
 {

@@ -1,12 +1,14 @@
-//! The arena: interned games in canonical form, each at an index, their order, and the canonical forms of games of two
-//! lists of indexes.
+//! The arena: interned games in canonical form, each at a place, their order, and the canonical forms of games by two
+//! lists of games of the arena.
 #![tactic(auto)]
 
 mod arena;
 mod best;
 mod bypass;
 mod canonicalizing;
+mod charge;
 mod decided;
+mod game;
 mod keys;
 mod order;
 mod order_memo;
@@ -26,6 +28,8 @@ mod verdicts;
 
 pub use arena::{Arena, Read};
 pub use canonicalizing::{Canonicalized, NewForm, canonicalize};
+pub use charge::Charge;
+pub use game::Game;
 pub use order::at_most;
 pub use order_memo::OrderMemo;
 pub use reduce::Form;

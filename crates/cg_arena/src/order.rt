@@ -12,18 +12,20 @@ ghost use Rattle.cg_arena.specs.OrderMemos.{AreRight};
 
 use crate::arena::{Arena, Read};
 use crate::decided::decided_for;
+use crate::game::Game;
 use crate::order_memo::OrderMemo;
 use std::alloc::AllocError;
 
 /// Whether the player has no option in the list that is as good as x; with `left` the player is Left, and else Right
 /// with the order turned.
 #[cycle(found)]
+#[inline(always)]
 pub(crate) fn none_as_good(
     arena: &Arena,
     answers: &mut OrderMemo,
     left: bool,
-    x: u32,
-    list: &[u32],
+    x: Game,
+    list: &[Game],
 ) -> Result<bool, AllocError>
     requires x { IsIndex arena.now x }
     requires list { AreIndexes arena.now list.now }
@@ -43,7 +45,7 @@ pub(crate) fn none_as_good(
 /// Whether a <= b, from their options.
 #[cycle(found)]
 #[inline(always)]
-fn compared(arena: &Arena, answers: &mut OrderMemo, a: u32, b: u32) -> Result<bool, AllocError>
+fn compared(arena: &Arena, answers: &mut OrderMemo, a: Game, b: Game) -> Result<bool, AllocError>
     requires a { IsIndex arena.now a }
     requires b { IsIndex arena.now b }
     requires right { AreRight arena.now answers.old }
@@ -54,15 +56,15 @@ fn compared(arena: &Arena, answers: &mut OrderMemo, a: u32, b: u32) -> Result<bo
     match arena.read(a) {
         Read::Number(x) => match high {
             Read::Number(y) => Ok(x.le(y)),
-            Read::Game(_, rights) => none_as_good(arena, answers, false, a, rights),
+            Read::Options(_, rights) => none_as_good(arena, answers, false, a, rights),
         },
-        Read::Game(lefts, _) => {
+        Read::Options(lefts, _) => {
             if !none_as_good(arena, answers, true, b, lefts)? {
                 return Ok(false);
             }
             match high {
                 Read::Number(_) => Ok(true),
-                Read::Game(_, rights) => none_as_good(arena, answers, false, a, rights),
+                Read::Options(_, rights) => none_as_good(arena, answers, false, a, rights),
             }
         }
     }
@@ -71,7 +73,8 @@ fn compared(arena: &Arena, answers: &mut OrderMemo, a: u32, b: u32) -> Result<bo
 /// Whether a <= b, by an answer that is kept, or from their options. The answer is kept, unless both games are light:
 /// these are compared again.
 #[cycle(found)]
-fn found(arena: &Arena, answers: &mut OrderMemo, a: u32, b: u32) -> Result<bool, AllocError>
+#[inline(never)]
+fn found(arena: &Arena, answers: &mut OrderMemo, a: Game, b: Game) -> Result<bool, AllocError>
     requires a { IsIndex arena.now a }
     requires b { IsIndex arena.now b }
     requires right { AreRight arena.now answers.old }
@@ -92,12 +95,13 @@ fn found(arena: &Arena, answers: &mut OrderMemo, a: u32, b: u32) -> Result<bool,
 /// Whether the game a is no better for the player than b; with `left` the player is Left, and else Right. The only
 /// error is want of memory. (Siegel, Combinatorial Game Theory (2013), I.1 and II.1.)
 #[cycle(found)]
+#[inline(always)]
 pub fn at_most(
     arena: &Arena,
     answers: &mut OrderMemo,
     left: bool,
-    a: u32,
-    b: u32,
+    a: Game,
+    b: Game,
 ) -> Result<bool, AllocError>
     requires a { IsIndex arena.now a }
     requires b { IsIndex arena.now b }

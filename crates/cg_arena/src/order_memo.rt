@@ -8,13 +8,14 @@ ghost use Rattle.std.specs.Prelude.{◌≡◌, ◌⊎◌, IfOk, IfSome, OnErr};
 ghost use Rattle.cg_arena.specs.declared.order_memo.Answer.{Answer as Known};
 ghost use Rattle.cg_arena.specs.OrderMemos.{IsPlaced, IsKept};
 
+use crate::game::Game;
 use std::alloc::{AllocError, Global};
 
 /// Whether the game at one index is at most that at another.
 #[derive(Clone, Copy)]
 pub(crate) struct Answer {
-    pub low: u32,
-    pub high: u32,
+    pub low: Game,
+    pub high: Game,
     pub at_most: bool,
 }
 
@@ -40,8 +41,8 @@ const SMALL: usize = 16_384;
 const WAYS: usize = 2;
 
 /// The first place of the pair, in a table of 16,777,216 places.
-fn home_of(a: u32, b: u32) -> usize {
-    let pair = b as u64 * 4_294_967_296 + a as u64;
+fn home_of(a: Game, b: Game) -> usize {
+    let pair = b.number() as u64 * 4_294_967_296 + a.number() as u64;
     (pair.wrapping_mul(0x9E37_79B9_7F4A_7C15) >> 40) as usize
 }
 
@@ -71,7 +72,7 @@ fn copy(places: &mut [Option<Answer>], from: usize, to: usize)
 }
 
 /// Puts the answer to whether the one game is at most the other at the place.
-fn set(places: &mut [Option<Answer>], at: usize, low: u32, high: u32, at_most: bool)
+fn set(places: &mut [Option<Answer>], at: usize, low: Game, high: Game, at_most: bool)
     ensures { (x : Known) → IsPlaced places.new x
         → (x ≡ record { low = low; high = high; at_most = at_most }) ⊎ IsPlaced places.old x }
 {
@@ -83,7 +84,7 @@ fn set(places: &mut [Option<Answer>], at: usize, low: u32, high: u32, at_most: b
 /// Puts the answer to whether the one game is at most the other at its first place, and what stood there at its second
 /// one. It comes in parts, since an answer that was just written would be read again as one word, and the processor
 /// waits for that.
-fn put(places: &mut [Option<Answer>], low: u32, high: u32, at_most: bool)
+fn put(places: &mut [Option<Answer>], low: Game, high: Game, at_most: bool)
     ensures { (x : Known) → IsPlaced places.new x
         → (x ≡ record { low = low; high = high; at_most = at_most }) ⊎ IsPlaced places.old x }
 {
@@ -136,7 +137,7 @@ impl OrderMemo {
     }
 
     /// Whether the first game is at most the second, if that is kept.
-    pub(crate) fn recall(&self, low: u32, high: u32) -> Option<bool>
+    pub(crate) fn recall(&self, low: Game, high: Game) -> Option<bool>
         ensures { IfSome result (λ yes. IsKept self.now (record { low = low; high = high; at_most = yes })) }
     {
         let home = home_of(low, high);
@@ -166,7 +167,12 @@ impl OrderMemo {
 
     /// Keeps whether the first game is at most the second. Some other answer may be forgotten for it. Nothing changes
     /// where there is no memory.
-    pub(crate) fn remember(&mut self, low: u32, high: u32, at_most: bool) -> Result<(), AllocError>
+    pub(crate) fn remember(
+        &mut self,
+        low: Game,
+        high: Game,
+        at_most: bool,
+    ) -> Result<(), AllocError>
         ensures ok { IfOk result (λ _. (x : Known) → IsKept self.new x
             → (x ≡ record { low = low; high = high; at_most = at_most }) ⊎ IsKept self.old x) }
         ensures err { OnErr result ((x : Known) → IsKept self.new x → IsKept self.old x) }

@@ -9,7 +9,8 @@ ghost use Rattle.cg_arena.specs.Terms.{ApartByTerm, NoneComparable};
 ghost use Rattle.cg_arena.specs.Undominated.{Undominated};
 
 use crate::arena::Arena;
-use crate::best::{others, undominated};
+use crate::best::{take_out, undominated};
+use crate::game::Game;
 use crate::order::none_as_good;
 use crate::order_memo::OrderMemo;
 use crate::substitutes::{Options, push_option, push_options};
@@ -23,8 +24,8 @@ fn undominated_of_terms(
     arena: &Arena,
     answers: &mut OrderMemo,
     left: bool,
-    firsts: &[u32],
-    seconds: &[u32],
+    firsts: &[Game],
+    seconds: &[Game],
 ) -> Result<Options, AllocError>
     requires firsts { AreIndexes arena.now firsts.now }
     requires seconds { AreIndexes arena.now seconds.now }
@@ -40,7 +41,7 @@ fn undominated_of_terms(
     push_options(&mut rest, seconds)?;
     for x in firsts {
         if none_as_good(arena, answers, left, *x, rest.as_slice())? {
-            rest = others(arena, answers, left, rest.as_slice(), *x)?;
+            take_out(arena, answers, left, &mut rest, *x)?;
             push_option(&mut own, *x)?;
         }
     }
@@ -53,8 +54,8 @@ pub(crate) fn own_undominated(
     arena: &Arena,
     answers: &mut OrderMemo,
     left: bool,
-    lefts: &[u32],
-    rights: &[u32],
+    lefts: &[Game],
+    rights: &[Game],
     first_term: Option<FirstTerm>,
 ) -> Result<Options, AllocError>
     requires lefts { AreIndexes arena.now lefts.now }

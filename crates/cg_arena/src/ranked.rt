@@ -6,14 +6,15 @@ ghost use Rattle.std.specs.Prelude.{IfOk};
 ghost use Rattle.std.specs.List.Sorted.{IsPermutation};
 
 use crate::arena::Arena;
+use crate::game::Game;
 use std::alloc::{AllocError, Global};
 use std::cmp::Ordering;
 
 /// Which of the games at two indexes comes first for the player, where both indexes are there: the one with more
 /// numbers that are no better, and where these are the same, the one with fewer numbers that are as good.
-fn compare_reach(arena: &Arena, left: bool, a: u32, b: u32) -> Ordering {
+fn compare_reach(arena: &Arena, left: bool, a: Game, b: Game) -> Ordering {
     let count = arena.count();
-    if a as usize >= count || b as usize >= count {
+    if a.place() >= count || b.place() >= count {
         return Ordering::Equal;
     }
     let (a, b) = (arena.keys(a), arena.keys(b));
@@ -28,8 +29,8 @@ pub(crate) fn furthest_first(
     alloc: Global,
     arena: &Arena,
     left: bool,
-    items: &[u32],
-) -> Result<Vec<u32>, AllocError>
+    items: &[Game],
+) -> Result<Vec<Game>, AllocError>
     ensures { IfOk result (λ r. IsPermutation items.now r.items) }
 {
     let mut all = items.to_vec(alloc)?;

@@ -17,6 +17,7 @@ ghost use Rattle.cg_arena.specs.UnreducedGames.{AreKnown, UnreducedHolds, unredu
 use crate::arena::Arena;
 use crate::best::undominated;
 use crate::bypass::candidates;
+use crate::game::Game;
 use crate::keys::Keys;
 use crate::order_memo::OrderMemo;
 use crate::owning::own_undominated;
@@ -114,8 +115,8 @@ fn put_bypassed(
 pub(crate) fn put_reduced(
     arena: &Arena,
     answers: &mut OrderMemo,
-    lefts: &[u32],
-    rights: &[u32],
+    lefts: &[Game],
+    rights: &[Game],
     summary: &Summary,
     first_term: Option<FirstTerm>,
     form: &mut Form,

@@ -4,12 +4,14 @@
 //! Mostly none of them is reversible. Then nothing is bypassed, and no list is made of what stands in their places.
 ghost use Rattle.std.specs.Prelude.{IfNone, IfOk, IfSome, IsTrue, cond};
 ghost use Rattle.cg_form.specs.Bypass.{Fine};
-ghost use Rattle.cg_form.specs.Game.{Among, Game};
+ghost use Rattle.cg_form.specs.Game as tree;
+ghost use Rattle.cg_form.specs.Game.{Among};
 ghost use Rattle.cg_form.specs.Side.{AtMost, far};
 ghost use Rattle.cg_arena.specs.Arena.{IsIndex, game_of, games_of};
 ghost use Rattle.cg_arena.specs.UnreducedGames.{AreKnown, unreduced_game};
 
 use crate::arena::{Arena, Read};
+use crate::game::Game;
 use crate::order_memo::OrderMemo;
 use crate::unreduced::{Unreduced, chosen, first_at_most};
 use crate::verdicts::Verdicts;
@@ -24,8 +26,8 @@ pub(crate) fn reverser(
     unreduced: &Unreduced,
     verdicts: &mut Verdicts,
     left: bool,
-    option: u32,
-) -> Result<Option<u32>, AllocError>
+    option: Game,
+) -> Result<Option<Game>, AllocError>
     requires known { AreKnown arena.now unreduced.now answers.old verdicts.old }
     requires option { IsIndex arena.now option }
     requires less { ¬ AtMost left (unreduced_game arena.now unreduced.now) (game_of arena.now option) }
@@ -37,7 +39,7 @@ pub(crate) fn reverser(
 {
     match arena.read(option) {
         Read::Number(_) => Ok(None),
-        Read::Game(lefts, rights) => {
+        Read::Options(lefts, rights) => {
             let far = chosen(left, rights, lefts);
             first_at_most(arena, answers, unreduced, verdicts, left, far)
         }
@@ -54,7 +56,7 @@ pub(crate) fn all_stay(
 ) -> Result<bool, AllocError>
     requires known { AreKnown arena.now unreduced.now answers.old verdicts.old }
     ensures fine { IfOk result (λ yes. IsTrue yes
-        → (x : Game) → Among x (games_of arena.now (cond left unreduced.now.lefts.now unreduced.now.rights.now))
+        → (x : tree.Game) → Among x (games_of arena.now (cond left unreduced.now.lefts.now unreduced.now.rights.now))
         → Fine left (unreduced_game arena.now unreduced.now) x) }
     ensures known { AreKnown arena.now unreduced.now answers.new verdicts.new }
 {

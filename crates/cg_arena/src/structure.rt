@@ -7,11 +7,12 @@ ghost use Rattle.cg_form.specs.Structure.{game_cmp, order_of_lists};
 ghost use Rattle.cg_arena.specs.Arena.{AreIndexes, IsIndex, game_of, games_of};
 
 use crate::arena::{Arena, Read};
+use crate::game::Game;
 use std::cmp::Ordering;
 
 /// The structural order of two lists.
 #[cycle(compare)]
-fn compare_lists(arena: &Arena, a: &[u32], b: &[u32]) -> Ordering
+fn compare_lists(arena: &Arena, a: &[Game], b: &[Game]) -> Ordering
     requires a { AreIndexes arena.now a.now }
     requires b { AreIndexes arena.now b.now }
     ensures { result ≡ order_of_lists (games_of arena.now a.now) (games_of arena.now b.now) }
@@ -35,7 +36,7 @@ fn compare_lists(arena: &Arena, a: &[u32], b: &[u32]) -> Ordering
 /// The structural order of two games. Games at one index are equal at once. It allocates nothing, and calls itself at
 /// most as deep as the games are.
 #[cycle(compare)]
-pub(crate) fn compare(arena: &Arena, a: u32, b: u32) -> Ordering
+pub(crate) fn compare(arena: &Arena, a: Game, b: Game) -> Ordering
     requires a { IsIndex arena.now a }
     requires b { IsIndex arena.now b }
     ensures { result ≡ game_cmp (game_of arena.now a) (game_of arena.now b) }
@@ -46,11 +47,11 @@ pub(crate) fn compare(arena: &Arena, a: u32, b: u32) -> Ordering
     match arena.read(a) {
         Read::Number(x) => match arena.read(b) {
             Read::Number(y) => x.compare(y),
-            Read::Game(_, _) => Ordering::Less,
+            Read::Options(_, _) => Ordering::Less,
         },
-        Read::Game(lefts, rights) => match arena.read(b) {
+        Read::Options(lefts, rights) => match arena.read(b) {
             Read::Number(_) => Ordering::Greater,
-            Read::Game(other_lefts, other_rights) => {
+            Read::Options(other_lefts, other_rights) => {
                 let order = compare_lists(arena, lefts, other_lefts);
                 if order != Ordering::Equal {
                     return order;

@@ -2,6 +2,7 @@
 ghost use Rattle.std.specs.Prelude.{◌≡◌, ◌++◌, ◌∷◌, ◌⊎◌, [], ℕ, IfOk, IsTrue, OnOk};
 ghost use Rattle.cg_arena.specs.Passed.{WasPassed};
 
+use crate::game::Game;
 use crate::verdicts::ByIndex;
 use smallvec::SmallVec;
 use std::alloc::{AllocError, Global};
@@ -10,11 +11,11 @@ use std::alloc::{AllocError, Global};
 pub(crate) const FEW: usize = 8;
 
 /// A list of options: up to 8 of them take no memory.
-pub(crate) type Options = SmallVec<u32, 8>;
+pub(crate) type Options = SmallVec<Game, 8>;
 
 /// Puts the option behind the others: with no call where there is room for it, as there mostly is.
 #[inline(always)]
-pub(crate) fn push_option(options: &mut Options, x: u32) -> Result<(), AllocError>
+pub(crate) fn push_option(options: &mut Options, x: Game) -> Result<(), AllocError>
     ensures { OnOk result (options.new.items ≡ options.old.items ++ (x ∷ [])) }
 {
     if options.len() < options.capacity() {
@@ -26,7 +27,7 @@ pub(crate) fn push_option(options: &mut Options, x: u32) -> Result<(), AllocErro
 }
 
 /// Puts the options behind the others.
-pub(crate) fn push_options(options: &mut Options, all: &[u32]) -> Result<(), AllocError>
+pub(crate) fn push_options(options: &mut Options, all: &[Game]) -> Result<(), AllocError>
     ensures { OnOk result (options.new.items ≡ options.old.items ++ all.now) }
 {
     for x in all {
@@ -56,14 +57,14 @@ impl Substitutes {
     }
 
     /// Whether they stand in the place of the option.
-    pub(crate) fn has_passed(&self, option: u32) -> bool
+    pub(crate) fn has_passed(&self, option: Game) -> bool
         ensures { IsTrue result → WasPassed self.now option }
     {
         self.passed.recall(option).is_some()
     }
 
     /// Puts one option more behind the others.
-    pub(crate) fn push(&mut self, option: u32) -> Result<(), AllocError>
+    pub(crate) fn push(&mut self, option: Game) -> Result<(), AllocError>
         ensures items { IfOk result (λ _. self.new.items.items ≡ self.old.items.items ++ (option ∷ [])) }
         ensures passed { (p : ℕ) → WasPassed self.new p → WasPassed self.old p }
     {
@@ -71,7 +72,7 @@ impl Substitutes {
     }
 
     /// Notes that they stand in the place of the option, too.
-    pub(crate) fn pass(&mut self, option: u32) -> Result<(), AllocError>
+    pub(crate) fn pass(&mut self, option: Game) -> Result<(), AllocError>
         ensures items { self.new.items.items ≡ self.old.items.items }
         ensures passed { (p : ℕ) → WasPassed self.new p → WasPassed self.old p ⊎ (p ≡ option) }
     {

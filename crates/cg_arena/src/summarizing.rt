@@ -5,7 +5,8 @@
 ghost use Rattle.std.specs.Prelude.{◌≡◌, ◌+◌, ◌<◌, ◌≤◌, ◌^◌, false, length, true, IsSome, IsTrue};
 ghost use Rattle.cg_form.specs.Cut.{AnyNumber, CutIs, CutOf};
 ghost use Rattle.cg_form.specs.Depth.{deepest};
-ghost use Rattle.cg_form.specs.Game.{Game, node};
+ghost use Rattle.cg_form.specs.Game as tree;
+ghost use Rattle.cg_form.specs.Game.{node};
 ghost use Rattle.cg_form.specs.Simple.{NoNumber};
 ghost use Rattle.cg_arena.specs.Keys.{HasKeys};
 ghost use Rattle.cg_arena.specs.Arena.{AreIndexes, games_of};
@@ -13,6 +14,7 @@ ghost use Rattle.cg_arena.specs.Summaries.{IsSummary};
 ghost use Rattle.cg_arena.specs.Decided.{NoFurther};
 
 use crate::arena::Arena;
+use crate::game::Game;
 use crate::keys::Keys;
 use crate::summary::Summary;
 use cg_dyadic::cut::Cut;
@@ -21,8 +23,8 @@ use cg_form::cuts::turned;
 /// Whether more numbers are no better for the player than the first game than are no better than the second.
 #[inline]
 fn reaches_past(left: bool, a: &Keys, b: &Keys) -> bool
-    ensures past { (g h : Game) → HasKeys g a.now → HasKeys h b.now → IsTrue result → NoFurther left h g }
-    ensures not_past { (g h : Game) → HasKeys g a.now → HasKeys h b.now → result ≡ false → NoFurther left g h }
+    ensures past { (g h : tree.Game) → HasKeys g a.now → HasKeys h b.now → IsTrue result → NoFurther left h g }
+    ensures not_past { (g h : tree.Game) → HasKeys g a.now → HasKeys h b.now → result ≡ false → NoFurther left g h }
 {
     if left {
         return a.low > b.low;
@@ -31,7 +33,7 @@ fn reaches_past(left: bool, a: &Keys, b: &Keys) -> bool
 }
 
 /// The numbers that are no better for the player than some option, where there is an option.
-pub(crate) fn cut_of(arena: &Arena, left: bool, options: &[u32]) -> Option<Cut>
+pub(crate) fn cut_of(arena: &Arena, left: bool, options: &[Game]) -> Option<Cut>
     requires { AreIndexes arena.now options.now }
     ensures { CutOf AnyNumber left result (games_of arena.now options.now) }
 {
@@ -45,7 +47,7 @@ pub(crate) fn cut_of(arena: &Arena, left: bool, options: &[u32]) -> Option<Cut>
 }
 
 /// The greatest depth of an option, and 0 where there is none.
-fn deepest_of(arena: &Arena, options: &[u32]) -> u64
+fn deepest_of(arena: &Arena, options: &[Game]) -> u64
     requires { AreIndexes arena.now options.now }
     ensures deepest { result ≡ deepest (games_of arena.now options.now) }
     ensures small { result ≤ 2 ^ 32 }
@@ -58,7 +60,7 @@ fn deepest_of(arena: &Arena, options: &[u32]) -> u64
 }
 
 /// The cost of the item of a game with these lists of options.
-fn cost_of_lists(lefts: &[u32], rights: &[u32]) -> u64
+fn cost_of_lists(lefts: &[Game], rights: &[Game]) -> u64
     ensures cost { result ≡ 1 + length lefts.now + length rights.now }
     ensures small { result < 2 ^ 63 }
 {
@@ -70,8 +72,8 @@ pub(crate) fn summary_with(
     arena: &Arena,
     low: Cut,
     high: Cut,
-    lefts: &[u32],
-    rights: &[u32],
+    lefts: &[Game],
+    rights: &[Game],
 ) -> Summary
     requires lefts { AreIndexes arena.now lefts.now }
     requires rights { AreIndexes arena.now rights.now }
@@ -93,8 +95,8 @@ pub(crate) fn summary_between(
     arena: &Arena,
     low: &Option<Cut>,
     high: &Option<Cut>,
-    lefts: &[u32],
-    rights: &[u32],
+    lefts: &[Game],
+    rights: &[Game],
 ) -> Summary
     requires lefts { AreIndexes arena.now lefts.now }
     requires rights { AreIndexes arena.now rights.now }
@@ -111,7 +113,7 @@ pub(crate) fn summary_between(
 }
 
 /// The summary of the game with these options, which equals no number.
-pub fn summary_of_lists(arena: &Arena, lefts: &[u32], rights: &[u32]) -> Summary
+pub fn summary_of_lists(arena: &Arena, lefts: &[Game], rights: &[Game]) -> Summary
     requires lefts { AreIndexes arena.now lefts.now }
     requires rights { AreIndexes arena.now rights.now }
     requires no_number { NoNumber (node (games_of arena.now lefts.now) (games_of arena.now rights.now)) }

@@ -1,10 +1,12 @@
 //! What is known of a game besides its order with other games.
 ghost use Rattle.std.specs.Prelude.{◌≡◌};
 ghost use Rattle.cg_dyadic.specs.Number.{InRange};
+ghost use Rattle.cg_form.specs.Game as tree;
 ghost use Rattle.cg_form.specs.Game.{number};
-ghost use Rattle.cg_arena.specs.Costs.{cost_of};
+ghost use Rattle.cg_arena.specs.Costs.{IsCharge, cost_of};
 ghost use Rattle.cg_arena.specs.Summaries.{IsSummary, chosen_cut};
 
+use crate::charge::Charge;
 use cg_dyadic::Dyadic;
 use cg_dyadic::cut::Cut;
 
@@ -22,7 +24,7 @@ pub struct Summary {
 }
 
 /// The cost of a number's item.
-fn cost_of_number(x: Dyadic) -> u64
+pub(crate) fn cost_of_number(x: Dyadic) -> u64
     ensures { result ≡ cost_of (number x) }
 {
     if x.is_long() { 3 } else { 1 }
@@ -48,5 +50,18 @@ impl Summary {
         ensures { result ≡ chosen_cut left self.now.low self.now.high }
     {
         if left { self.low } else { self.high }
+    }
+
+    /// What the game's item is charged by.
+    #[inline(always)]
+    pub fn charge(&self) -> Charge
+        ensures depth { result.depth ≡ self.now.depth }
+        ensures cost { result.cost ≡ self.now.cost }
+        ensures charge { (g : tree.Game) → IsSummary g self.now → IsCharge g result }
+    {
+        Charge {
+            depth: self.depth,
+            cost: self.cost,
+        }
     }
 }

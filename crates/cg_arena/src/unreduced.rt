@@ -8,6 +8,7 @@ ghost use Rattle.cg_arena.specs.UnreducedGames.{AreKnown, unreduced_game};
 
 use crate::arena::{Arena, Read};
 use crate::decided::decided_for;
+use crate::game::Game;
 use crate::keys::Keys;
 use crate::order::none_as_good;
 use crate::order_memo::OrderMemo;
@@ -21,9 +22,9 @@ use std::alloc::AllocError;
 #[derive(Drop)]
 pub(crate) struct Unreduced<'a> {
     /// The Left options.
-    pub lefts: &'a [u32],
+    pub lefts: &'a [Game],
     /// The Right options.
-    pub rights: &'a [u32],
+    pub rights: &'a [Game],
     /// The summary of a game of the same value.
     pub summary: Summary,
     /// The keys of the summary.
@@ -32,7 +33,7 @@ pub(crate) struct Unreduced<'a> {
 
 impl<'a> Unreduced<'a> {
     /// The options of the player, who is Left with `left`, and else Right.
-    pub(crate) fn own(&self, left: bool) -> &'a [u32]
+    pub(crate) fn own(&self, left: bool) -> &'a [Game]
         ensures { result.now ≡ cond left self.now.lefts.now self.now.rights.now }
     {
         if left { self.lefts } else { self.rights }
@@ -40,7 +41,7 @@ impl<'a> Unreduced<'a> {
 }
 
 /// The player's own of two lists.
-pub(crate) fn chosen<'a>(left: bool, lefts: &'a [u32], rights: &'a [u32]) -> &'a [u32]
+pub(crate) fn chosen<'a>(left: bool, lefts: &'a [Game], rights: &'a [Game]) -> &'a [Game]
     ensures { result.now ≡ cond left lefts.now rights.now }
 {
     if left { lefts } else { rights }
@@ -54,7 +55,7 @@ fn compared_with_unreduced(
     unreduced: &Unreduced,
     verdicts: &mut Verdicts,
     left: bool,
-    index: u32,
+    index: Game,
 ) -> Result<bool, AllocError>
     requires known { AreKnown arena.now unreduced.now answers.old verdicts.old }
     requires index { IsIndex arena.now index }
@@ -64,7 +65,7 @@ fn compared_with_unreduced(
 {
     match arena.read(index) {
         Read::Number(x) => Ok(in_cut(left, &unreduced.summary.cut(left), x)),
-        Read::Game(lefts, rights) => {
+        Read::Options(lefts, rights) => {
             if !none_as_good(arena, answers, !left, index, unreduced.own(!left))? {
                 return Ok(false);
             }
@@ -86,7 +87,7 @@ fn at_most_unreduced(
     unreduced: &Unreduced,
     verdicts: &mut Verdicts,
     left: bool,
-    index: u32,
+    index: Game,
 ) -> Result<bool, AllocError>
     requires known { AreKnown arena.now unreduced.now answers.old verdicts.old }
     requires index { IsIndex arena.now index }
@@ -113,8 +114,8 @@ pub(crate) fn first_at_most(
     unreduced: &Unreduced,
     verdicts: &mut Verdicts,
     left: bool,
-    list: &[u32],
-) -> Result<Option<u32>, AllocError>
+    list: &[Game],
+) -> Result<Option<Game>, AllocError>
     requires known { AreKnown arena.now unreduced.now answers.old verdicts.old }
     requires list { AreIndexes arena.now list.now }
     ensures some { IfOk result (λ r. IfSome r (λ b. IsIndex arena.now b

@@ -2,6 +2,7 @@
 ghost use Rattle.std.specs.Prelude.{◌≡◌, ◌⊎◌, ℕ, Bool, None, Some};
 ghost use Rattle.cg_arena.specs.Verdict.{answer_for, noted, verdict};
 
+use crate::game::Game;
 use smallvec::SmallVec;
 use std::alloc::{AllocError, Global};
 use std::collections::HashMap;
@@ -12,7 +13,7 @@ const FEW: usize = 8;
 /// The answer for an index.
 #[derive(Clone, Copy, Default)]
 pub(crate) struct Noted {
-    pub index: u32,
+    pub index: Game,
     pub answer: bool,
 }
 
@@ -26,7 +27,7 @@ pub(crate) struct ByIndex {
 }
 
 /// The answer for the index among these, if there is one.
-fn find(entries: &[Noted], index: u32) -> Option<bool>
+fn find(entries: &[Noted], index: Game) -> Option<bool>
     ensures { result ≡ noted entries.now index }
 {
     for entry in entries {
@@ -49,7 +50,7 @@ impl ByIndex {
     }
 
     /// The answer for the index, if there is one.
-    pub(crate) fn recall(&self, a: u32) -> Option<bool>
+    pub(crate) fn recall(&self, a: Game) -> Option<bool>
         ensures { result ≡ answer_for self.now a }
     {
         if let Some(answer) = find(self.few.as_slice(), a) {
@@ -58,18 +59,18 @@ impl ByIndex {
         if self.more.is_empty() {
             return None;
         }
-        self.more.get(&a).copied()
+        self.more.get(&a.number()).copied()
     }
 
     /// Keeps the answer for the index.
-    pub(crate) fn remember(&mut self, a: u32, answer: bool) -> Result<(), AllocError>
+    pub(crate) fn remember(&mut self, a: Game, answer: bool) -> Result<(), AllocError>
         ensures { (c : ℕ) (b : Bool) → answer_for self.new c ≡ Some b
             → (answer_for self.old c ≡ Some b) ⊎ ((c ≡ a) × (b ≡ answer)) }
     {
         if self.few.len() < FEW {
             self.few.push(Noted { index: a, answer })?;
         } else {
-            self.more.insert(a, answer)?;
+            self.more.insert(a.number(), answer)?;
         }
         Ok(())
     }
@@ -95,7 +96,7 @@ impl Verdicts {
     }
 
     /// The answer for the player, who is Left with `left`, and the index, if there is one.
-    pub(crate) fn recall(&self, left: bool, a: u32) -> Option<bool>
+    pub(crate) fn recall(&self, left: bool, a: Game) -> Option<bool>
         ensures { result ≡ verdict self.now left a }
     {
         if left {
@@ -105,7 +106,7 @@ impl Verdicts {
     }
 
     /// Keeps the answer for the player and the index. Nothing changes where there is no memory.
-    pub(crate) fn remember(&mut self, left: bool, a: u32, answer: bool) -> Result<(), AllocError>
+    pub(crate) fn remember(&mut self, left: bool, a: Game, answer: bool) -> Result<(), AllocError>
         ensures { (s : Bool) (c : ℕ) (b : Bool) → verdict self.new s c ≡ Some b
             → (verdict self.old s c ≡ Some b) ⊎ ((s ≡ left) × (c ≡ a) × (b ≡ answer)) }
     {

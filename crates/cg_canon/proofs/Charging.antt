@@ -10,30 +10,32 @@ use Rattle.cg_nodes.specs.Meant.{Meant}
 use Rattle.cg_nodes.proofs.Members.{length_games}
 use Rattle.cg_nodes.proofs.Later.{are_games_later, games_later, listed_as, lists_later, spends_then}
 use Rattle.cg_canon.specs.declared.fault.ValueFault.TheVariants.{Depth, Full, Range}
+use Rattle.cg_arena.specs.declared.charge.Charge.{Charge}
 use Rattle.cg_arena.specs.declared.summary.Summary.{Summary}
 use Rattle.cg_arena.specs.declared.canonicalizing.NewForm.{NewForm}
 use Rattle.cg_arena.specs.Canonicalized.{IsNewForm}
 use Rattle.cg_canon.specs.Paid.{written}
 use Rattle.cg_canon.specs.Items.{AllPass, IsStopped, made}
 use Rattle.cg_canon.specs.NumberItems.{number_made}
+use Rattle.cg_arena.specs.Costs.{IsCharge}
 use Rattle.cg_arena.specs.Summaries.{IsSummary}
 use Rattle.cg_canon.proofs.ItemLaws.{all_pass-after, stopped-one}
 
 -- ---- one form
 
-pub too_deep : (share spent extra : ℕ) (g : Game) (p : Summary) → IsSummary g p → 512 < p.depth
+pub too_deep : (share spent extra : ℕ) (g : Game) (p : Charge) → IsCharge g p → 512 < p.depth
     → IsStopped (Depth p.depth) share spent (made g extra ∷ []) spent
 too_deep share spent extra g p h deep =
     stopped-one (Depth p.depth) share spent (made g extra) [] (h.in_range, h.depth, deep)
 
-pub too_dear : (share spent extra : ℕ) (g : Game) (p : Summary) → IsSummary g p → p.depth ≤ 512 → share < spent + (p.cost + extra)
+pub too_dear : (share spent extra : ℕ) (g : Game) (p : Charge) → IsCharge g p → p.depth ≤ 512 → share < spent + (p.cost + extra)
     → IsStopped (Full (spent + (p.cost + extra))) share spent (made g extra ∷ []) spent
 too_dear share spent extra g p h deep dear =
     let c = h.cost in
     let d = h.depth in
     stopped-one (Full (spent + (p.cost + extra))) share spent (made g extra) [] (h.in_range, omega arith, omega arith, dear)
 
-pub one_passes : (share spent extra : ℕ) (g : Game) (p : Summary) → IsSummary g p → p.depth ≤ 512 → spent + (p.cost + extra) ≤ share
+pub one_passes : (share spent extra : ℕ) (g : Game) (p : Charge) → IsCharge g p → p.depth ≤ 512 → spent + (p.cost + extra) ≤ share
     → AllPass share spent (made g extra ∷ []) (spent + (p.cost + extra))
 one_passes share spent extra g p h deep within =
     let c = h.cost in

@@ -8,6 +8,7 @@ pub mod Same
 pub mod Charging
 pub mod Keeping
 pub mod MadeSteps
+pub mod MadeCalls
 pub mod Translated
 pub mod FormTables
 pub mod DistinctSteps

@@ -230,8 +230,8 @@ recognized_begins gs hs t b c r = record {
   canonical = c;
   games = All-weaker (Holds gs) (Holds hs) (λ k h.
       record {
-        within = index_begins gs hs k.index b h.within;
-        parts = rw (game_begins gs hs k.index b h.within) h.parts;
+        within = index_begins gs hs k.game b h.within;
+        parts = rw (game_begins gs hs k.game b h.within) h.parts;
       }) t.games.items r.games;
   nimbers = λ n less.
       let h = r.nimbers n less in

@@ -16,7 +16,7 @@ use Rattle.cg_canon.specs.Walking.{Appended, AreApart, AreMarked, HasPlace, foun
 -- ---- indexes and games
 
 pub indexes_length : (ps : List Position) → length (indexes_of ps) ≡ length ps
-indexes_length ps = length-map ps (λ (p : Position). p.index)
+indexes_length ps = length-map ps (λ (p : Position). p.game)
 
 pub found_length : (gs : List Game) (ps : List Position) → length (found_in gs ps) ≡ length ps
 found_length gs ps = length-map (indexes_of ps) (game_of gs) ∙ indexes_length ps
@@ -27,13 +27,13 @@ among_at gs [] g m = absurd m
 among_at gs (q ∷ qs) g (inl e) = (zero, omega arith, sym e)
 among_at gs (q ∷ qs) g (inr m) = let (i, l, e) = among_at gs qs g m in (suc i, omega arith, e)
 
-pub indexes_pushed : (ps : List Position) (p : Position) → indexes_of (ps ++ (p ∷ [])) ≡ indexes_of ps ++ (p.index ∷ [])
-indexes_pushed ps p = map-append (λ (p : Position). p.index) ps (p ∷ [])
+pub indexes_pushed : (ps : List Position) (p : Position) → indexes_of (ps ++ (p ∷ [])) ≡ indexes_of ps ++ (p.game ∷ [])
+indexes_pushed ps p = map-append (λ (p : Position). p.game) ps (p ∷ [])
 
-pub found_pushed : (gs : List Game) (ps : List Position) (p : Position) (index : ℕ) → p.index ≡ index
+pub found_pushed : (gs : List Game) (ps : List Position) (p : Position) (index : ℕ) → p.game ≡ index
     → found_in gs (ps ++ (p ∷ [])) ≡ found_in gs ps ++ (game_of gs index ∷ [])
 found_pushed gs ps p index e =
-    ap (games_of gs) (indexes_pushed ps p) ∙ games_pushed gs (indexes_of ps) _ p.index refl
+    ap (games_of gs) (indexes_pushed ps p) ∙ games_pushed gs (indexes_of ps) _ p.game refl
     ∙ ap (λ z. found_in gs ps ++ (game_of gs z ∷ [])) e
 
 -- ---- marks

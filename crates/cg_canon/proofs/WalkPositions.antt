@@ -28,7 +28,7 @@ is_node g ls rs e = rw e tt
 module _ (gs : List Game) (w : Walk) (fs : List Game) (is : IsWalk gs w fs) where
   pub count : length w.positions.items ≡ length fs
   count =
-      sym (length-map w.positions.items (λ p. p.index)) ∙ sym (length-map (indexes_of w.positions.items) (game_of gs))
+      sym (length-map w.positions.items (λ p. p.game)) ∙ sym (length-map (indexes_of w.positions.items) (game_of gs))
       ∙ ap length is.at.1
 
   -- a number below that of the positions
@@ -46,17 +46,17 @@ module _ (gs : List Game) (w : Walk) (fs : List Game) (is : IsWalk gs w fs) wher
     canonical = All-get_or (λ z. Canonical z) fs i (node [] []) within is.canonical
 
     -- it stands at its index
-    pub at : IsAt gs p.index (game_of fs i)
+    pub at : IsAt gs p.game (game_of fs i)
     at =
         let ps = indexes_of w.positions.items in
-        let l : i < length ps = (let n = length-map w.positions.items (λ p. p.index) in let h = inside in omega arith) in
-        let own : get_or ps i 0 ≡ p.index = get_or-map (λ p. p.index) w.positions.items i p 0 inside ∙ ap (λ z. z.index) (sym read) in
+        let l : i < length ps = (let n = length-map w.positions.items (λ p. p.game) in let h = inside in omega arith) in
+        let own : get_or ps i 0 ≡ p.game = get_or-map (λ p. p.game) w.positions.items i p 0 inside ∙ ap (λ z. z.game) (sym read) in
         rw (← own) (record {
           within = All-get_or (λ z. IsIndex gs z) ps i 0 l is.at.0;
           is = sym (get_or-map (game_of gs) ps i 0 (node [] []) l) ∙ ap (λ z. game_of z i) is.at.1;
         })
 
-    pub number_at_index : p.is_number ≡ true → (x : Number) × (game_of gs p.index ≡ number x)
+    pub number_at_index : p.is_number ≡ true → (x : Number) × (game_of gs p.game ≡ number x)
     number_at_index e = let n = place.as_number e in (n.x, at.is ∙ n.is)
 
     pub node_of_place : p.is_number ≡ false → IsNode (game_of fs i)

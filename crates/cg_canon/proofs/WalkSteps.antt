@@ -72,23 +72,23 @@ place_later opts more fs hs i p less h =
 
 -- where the game wasn't found, and all of its positions before it were, its position is the next
 module _ (gs : List Game) (marks m2 : List ℕ) (ps : List Position) (opts more : List ℕ) (p : Position) (index : ℕ)
-    (stands : WalkStands gs marks ps opts) (own : p.index ≡ index) (within : IsIndex gs index) (canonical : Canonical (game_of gs index))
+    (stands : WalkStands gs marks ps opts) (own : p.game ≡ index) (within : IsIndex gs index) (canonical : Canonical (game_of gs index))
     (before : (k : Game) → Among k (positions_before (game_of gs index)) → Among k (found_in gs ps))
     (out : ¬ Among (game_of gs index) (found_in gs ps))
     (place : IsPlace (opts ++ more) (found_in gs ps ++ (game_of gs index ∷ [])) (length ps) p)
-    (room : length m2 ≡ length marks) (mark : get_or m2 p.index 0 ≡ length ps)
-    (others : (i : ℕ) → ¬ (i ≡ p.index) → get_or m2 i 0 ≡ get_or marks i 0) where
+    (room : length m2 ≡ length marks) (mark : get_or m2 p.game 0 ≡ length ps)
+    (others : (i : ℕ) → ¬ (i ≡ p.game) → get_or m2 i 0 ≡ get_or marks i 0) where
   abbrev after : List Position
   after = ps ++ (p ∷ [])
 
   at_old : (i : ℕ) → i < length ps → get_or (indexes_of after) i 0 ≡ get_or (indexes_of ps) i 0
   at_old i l =
       let n = indexes_length ps in
-      ap (λ z. get_or z i 0) (indexes_pushed ps p) ∙ get_or_append_left (indexes_of ps) (p.index ∷ []) 0 i (omega arith)
+      ap (λ z. get_or z i 0) (indexes_pushed ps p) ∙ get_or_append_left (indexes_of ps) (p.game ∷ []) 0 i (omega arith)
 
-  at_new : (i : ℕ) → i ≡ length ps → get_or (indexes_of after) i 0 ≡ p.index
+  at_new : (i : ℕ) → i ≡ length ps → get_or (indexes_of after) i 0 ≡ p.game
   at_new i e =
-      ap (λ z. get_or z i 0) (indexes_pushed ps p) ∙ get_or_push (indexes_of ps) p.index 0 i (indexes_length ps ∙ sym e)
+      ap (λ z. get_or z i 0) (indexes_pushed ps p) ∙ get_or_push (indexes_of ps) p.game 0 i (indexes_length ps ∙ sym e)
 
   next_marked : (i : ℕ) → i < length after → get_or m2 (get_or (indexes_of after) i 0) 0 ≡ i
   next_marked i l = elim (eqb_tells i (length ps)) [
@@ -98,7 +98,7 @@ module _ (gs : List Game) (marks m2 : List ℕ) (ps : List Position) (opts more 
         let n = length_push ps p in
         let k = indexes_length ps in
         let less : i < length ps = omega arith in
-        let differs : ¬ (get_or (indexes_of ps) i 0 ≡ p.index) =
+        let differs : ¬ (get_or (indexes_of ps) i 0 ≡ p.game) =
         λ e. out (item_among gs (indexes_of ps) i index (omega arith) (sym (e ∙ own))) in
         ap (λ z. get_or m2 z 0) (at_old i less) ∙ others (get_or (indexes_of ps) i 0) differs ∙ stands.marked.marked i less
   ]
@@ -124,8 +124,8 @@ module _ (gs : List Game) (marks m2 : List ℕ) (ps : List Position) (opts more 
       let old = stands.marked.room in
       record {
         marked = record {
-          indexes = All-same (IsIndex gs) (indexes_of after) (indexes_of ps ++ (p.index ∷ [])) (indexes_pushed ps p)
-              (All-push (IsIndex gs) (indexes_of ps) p.index stands.marked.indexes (rw own within));
+          indexes = All-same (IsIndex gs) (indexes_of after) (indexes_of ps ++ (p.game ∷ [])) (indexes_pushed ps p)
+              (All-push (IsIndex gs) (indexes_of ps) p.game stands.marked.indexes (rw own within));
           room = omega arith;
           marked = next_marked;
         };
@@ -136,7 +136,7 @@ module _ (gs : List Game) (marks m2 : List ℕ) (ps : List Position) (opts more 
 
 -- the same, where the lists are given by equations
 module _ (gs : List Game) (marks m2 : List ℕ) (ps before after : List Position) (opts more opts2 opts3 : List ℕ) (p : Position) (index : ℕ)
-    (e : before ≡ ps) (f : after ≡ before ++ (p ∷ [])) (own : p.index ≡ index) where
+    (e : before ≡ ps) (f : after ≡ before ++ (p ∷ [])) (own : p.game ≡ index) where
   after_is : after ≡ ps ++ (p ∷ [])
   after_is = f ∙ ap (λ z. z ++ (p ∷ [])) e
 
@@ -144,8 +144,8 @@ module _ (gs : List Game) (marks m2 : List ℕ) (ps before after : List Position
       → ((k : Game) → Among k (positions_before (game_of gs index)) → Among k (found_in gs ps))
       → ¬ Among (game_of gs index) (found_in gs ps) → opts2 ≡ opts ++ more → opts3 ≡ opts2
       → IsPlace opts2 (found_in gs ps ++ (game_of gs index ∷ [])) (length ps) p
-      → length m2 ≡ length marks → get_or m2 p.index 0 ≡ length before
-      → ((i : ℕ) → ¬ (i ≡ p.index) → get_or m2 i 0 ≡ get_or marks i 0) → WalkStands gs m2 after opts3
+      → length m2 ≡ length marks → get_or m2 p.game 0 ≡ length before
+      → ((i : ℕ) → ¬ (i ≡ p.game) → get_or m2 i 0 ≡ get_or marks i 0) → WalkStands gs m2 after opts3
   next_walk stands within canonical there out k l place room mark others =
       rw after_is (rw (l ∙ k) (next_stands gs marks m2 ps opts more p index stands own within canonical there out
       (rw (← k) place) room (mark ∙ ap length e) others))

@@ -44,18 +44,18 @@ handle_in (Ok e) = Ok e.handle
 handle_in (Err fault) = Err fault
 
 -- an index, where there was memory for one
-abbrev pub index_or : Option ℕ → Result ℕ ValueFault
-index_or (Some i) = Ok i
-index_or None = Err Memory
+abbrev pub game_or : Option ℕ → Result ℕ ValueFault
+game_or (Some i) = Ok i
+game_or None = Err Memory
 
-abbrev pub index_in : Result Entered ValueFault → Result ℕ ValueFault
-index_in (Ok e) = index_or e.index
-index_in (Err fault) = Err fault
+abbrev pub game_in : Result Entered ValueFault → Result ℕ ValueFault
+game_in (Ok e) = game_or e.game
+game_in (Err fault) = Err fault
 
 -- the item was paid for or refused, and a form that was made stands in the arena, hs, at its index, if it has one; the arena, gs before,
 -- only grew
 pub record IsEntered {R : Type 0} (s t : State Meant R) (m n : Meter) (gs hs : List Game) (form : Game) (extra : ℕ)
     (result : Result Entered ValueFault) : Type 0 where
   pub paid : IsPaid s t m n form extra (handle_in result)
-  pub at : IfOk result (λ e. IfSome e.index (λ i. IsAt hs i form))
+  pub at : IfOk result (λ e. IfSome e.game (λ i. IsAt hs i form))
   pub begins : Begins gs hs

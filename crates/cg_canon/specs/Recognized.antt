@@ -24,14 +24,14 @@ pub record IsKnownAt (gs : List Game) (index : ℕ) (v : NumberUpStar) : Type 0 
   pub parts : HasParts (arena.game_of gs index) v
 
 abbrev pub known_at : ℕ → NumberUpStar → KnownAt
-known_at index v = record { index = index; parts = v }
+known_at index v = record { game = index; parts = v }
 
 -- the table has the index with this
 abbrev pub IsListed : Recognized → ℕ → NumberUpStar → Type 0
 IsListed t index v = Contains t.games.items (known_at index v)
 
 abbrev pub Holds : List Game → KnownAt → Type 0
-Holds gs k = IsKnownAt gs k.index k.parts
+Holds gs k = IsKnownAt gs k.game k.parts
 
 -- at these indexes stand 0, *1, *2 and so on
 unfoldable pub AreNimbers : List Game → List ℕ → Type 0

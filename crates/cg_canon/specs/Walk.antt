@@ -37,7 +37,7 @@ abbrev pub ArePlaces : List ℕ → List Game → List Position → Type 0
 ArePlaces options fs ps = (i : ℕ) (p : Position) → i < length ps → p ≡ get_or ps i p → IsPlace options fs i p
 
 abbrev pub indexes_of : List Position → List ℕ
-indexes_of ps = map (λ p. p.index) ps
+indexes_of ps = map (λ p. p.game) ps
 
 -- the games gs of an arena have those of the walk at the indexes of its positions
 pub record IsWalk (gs : List Game) (w : Walk) (fs : List Game) : Type 0 where

@@ -20,7 +20,7 @@ pub struct Cache {
     pub(crate) memo: Memo,
     /// The forms.
     pub(crate) made: MadeForms,
-    /// At which place of a walk the game at an index was found.
+    /// At which place of a walk each game of the arena was found.
     pub(crate) marks: Vec<usize>,
 }
 

@@ -1,4 +1,4 @@
-//! A new index of an interner, for a game of a store.
+//! A game of a store enters an interner.
 ghost use Rattle.std.specs.Prelude.{◌≡◌, IfOk};
 ghost use Rattle.cg_form.specs.Canonical.{Canonical};
 ghost use Rattle.cg_form.specs.Game.{node, number};
@@ -11,49 +11,49 @@ ghost use Rattle.cg_canon.specs.Interners.{InternerHolds};
 use crate::interner::{Interner, number_of_form};
 use crate::lossy_index::number_of_handle;
 use crate::number_up_star::NumberUpStar;
-use cg_arena::Summary;
+use cg_arena::{Game, Summary};
 use cg_cells::CellStore;
 use cg_dyadic::Dyadic;
 use cg_nodes::{BoardForms, GameFacts, Handle};
 use std::alloc::AllocError;
 
-/// An index for the handle's game, which is this number. The only error is want of memory.
+/// Enters the handle's game, which is this number. The only error is want of memory.
 pub(crate) fn enter_number<B: BoardForms, S: CellStore<GameFacts<B>>>(
     store: &S,
     interner: &mut Interner,
     handle: Handle,
     x: Dyadic,
-) -> Result<u32, AllocError>
+) -> Result<Game, AllocError>
     requires holds { InternerHolds (S.state store.now) interner.old }
     requires game { IsGame (S.state store.now) handle }
     requires is { game_at (S.state store.now) handle ≡ number x }
     ensures holds { InternerHolds (S.state store.now) interner.new }
     ensures begins { Begins interner.old.arena interner.new.arena }
-    ensures index { IfOk result (λ p. IsIndex interner.new.arena p × (game_of interner.new.arena p ≡ number x)) }
+    ensures game { IfOk result (λ p. IsIndex interner.new.arena p × (game_of interner.new.arena p ≡ number x)) }
 {
-    if let Some(index) = interner.index(handle) {
-        return Ok(index);
+    if let Some(game) = interner.game(handle) {
+        return Ok(game);
     }
     interner.by_id.reserve(1)?;
     interner.handles.reserve(1)?;
-    let index = interner.arena.add_number(x)?;
+    let game = interner.arena.add_number(x)?;
     interner.name(handle, number_of_handle(handle));
     interner
         .recognized
-        .enter(index, Some(NumberUpStar::of_number(x)));
-    Ok(index)
+        .enter(game, Some(NumberUpStar::of_number(x)));
+    Ok(game)
 }
 
-/// An index for the handle's game, which has these options and this summary. The only error is want of memory.
+/// Enters the handle's game, which has these options and this summary. The only error is want of memory.
 #[inline(always)]
 pub(crate) fn enter_game<B: BoardForms, S: CellStore<GameFacts<B>>>(
     store: &S,
     interner: &mut Interner,
     handle: Handle,
-    lefts: &[u32],
-    rights: &[u32],
+    lefts: &[Game],
+    rights: &[Game],
     summary: &Summary,
-) -> Result<u32, AllocError>
+) -> Result<Game, AllocError>
     requires holds { InternerHolds (S.state store.now) interner.old }
     requires game { IsGame (S.state store.now) handle }
     requires canonical { Canonical (game_at (S.state store.now) handle) }
@@ -64,17 +64,17 @@ pub(crate) fn enter_game<B: BoardForms, S: CellStore<GameFacts<B>>>(
     requires summary { IsSummary (game_at (S.state store.now) handle) summary.now }
     ensures holds { InternerHolds (S.state store.now) interner.new }
     ensures begins { Begins interner.old.arena interner.new.arena }
-    ensures index { IfOk result (λ p. IsIndex interner.new.arena p
+    ensures game { IfOk result (λ p. IsIndex interner.new.arena p
         × (game_of interner.new.arena p ≡ game_at (S.state store.now) handle)) }
 {
-    if let Some(index) = interner.index(handle) {
-        return Ok(index);
+    if let Some(game) = interner.game(handle) {
+        return Ok(game);
     }
     interner.by_id.reserve(1)?;
     interner.handles.reserve(1)?;
-    let index = interner.arena.add_game(lefts, rights, summary)?;
+    let game = interner.arena.add_game(lefts, rights, summary)?;
     interner.name(handle, number_of_form(lefts, rights));
     let parts = interner.recognized.seen(lefts, rights);
-    interner.recognized.enter(index, parts);
-    Ok(index)
+    interner.recognized.enter(game, parts);
+    Ok(game)
 }

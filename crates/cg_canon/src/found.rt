@@ -4,7 +4,7 @@ ghost use Rattle.cg_form.specs.Game.{node};
 ghost use Rattle.cg_cells.specs.Store.{Spends};
 ghost use Rattle.cg_nodes.specs.Can.{can};
 ghost use Rattle.cg_nodes.specs.Games.{AreGames, IsGame, game_at, games_at};
-ghost use Rattle.cg_arena.specs.Summaries.{IsSummary};
+ghost use Rattle.cg_arena.specs.Costs.{IsCharge};
 ghost use Rattle.cg_canon.specs.Added.{IsKnownSum};
 ghost use Rattle.cg_canon.specs.Made.{FormGiven};
 ghost use Rattle.cg_canon.specs.MadeForms.{IsFormOf};
@@ -16,22 +16,22 @@ use crate::making_at::make_canonical;
 use crate::memo::KnownSum;
 use crate::value::Way;
 use crate::work::Work;
-use cg_arena::Summary;
+use cg_arena::Charge;
 use cg_cells::CellStore;
 use cg_nodes::{BoardForms, GameFacts, Handle};
 use std::alloc::{AllocError, Global};
 
 impl<'a, B: BoardForms, S: CellStore<GameFacts<B>>> Work<'a, B, S> {
-    /// The summary of the game. The only error is want of memory.
+    /// What the game's item is charged by. The only error is want of memory.
     #[inline(always)]
-    pub(crate) fn summary_of(&mut self, alloc: Global, a: Handle) -> Result<Summary, AllocError>
+    pub(crate) fn charge_of(&mut self, alloc: Global, a: Handle) -> Result<Charge, AllocError>
         requires { IsGame (work_state S.state self.old) a }
-        ensures summary { IfOk result (λ p. IsSummary (game_at (work_state S.state self.old) a) p) }
+        ensures charge { IfOk result (λ p. IsCharge (game_at (work_state S.state self.old) a) p) }
         ensures same { IsUnspent (work_state S.state self.old) (work_state S.state self.new) }
         ensures spends { Spends 0 (work_state S.state self.old) (work_state S.state self.new) }
     {
-        let index = self.index(alloc, a)?;
-        Ok(*self.summary_at(index))
+        let game = self.game(alloc, a)?;
+        Ok(self.arena().charge(game))
     }
 
     /// Makes the item of the canonical form of the game with these options, with a cost of `extra` more.

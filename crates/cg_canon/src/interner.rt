@@ -16,33 +16,33 @@ ghost use Rattle.cg_canon.specs.Recognized.{AreRecognized};
 use crate::kept_sums::KeptSums;
 use crate::lossy_index::{LossyIndex, half_of, mixed};
 use crate::recognized::Recognized;
-use cg_arena::{Arena, OrderMemo, Read};
+use cg_arena::{Arena, Game, OrderMemo, Read};
 use cg_cells::CellStore;
 use cg_hash_index::HashIndex;
 use cg_nodes::{BoardForms, GameFacts, Handle};
 use smallvec::SmallVec;
 use std::alloc::{AllocError, Global};
 
-/// A list of indexes: up to 8 of them take no memory.
-pub(crate) type IndexList = SmallVec<u32, 8>;
+/// A list of games: up to 8 of them take no memory.
+pub(crate) type GameList = SmallVec<Game, 8>;
 
 /// A list of handles: up to 8 of them take no memory.
 pub(crate) type HandleList = SmallVec<Handle, 8>;
 
-/// The games that a work has met, each at an index with a handle, and the answers to comparisons of them.
+/// The games that a work has met, each with its handle, and the answers to comparisons of them.
 #[derive(Drop)]
 pub(crate) struct Interner {
     /// The games.
     pub(crate) arena: Arena,
     /// The answers to comparisons of them.
     pub(crate) answers: OrderMemo,
-    /// The handles of the indexes.
+    /// Their handles.
     pub(crate) handles: Vec<Handle>,
-    /// The ids of the handles, by which indexes are looked for.
+    /// The ids of the handles, by which games are looked for.
     pub(crate) by_id: HashIndex,
     /// Whether `by_id` has them all. Room is taken before a handle is added, so it does.
     is_complete: bool,
-    /// Where the index of a form is looked for, by the indexes of its options.
+    /// Where a form is looked for, by its options.
     forms: LossyIndex,
     /// Sums of pairs of games.
     pub(crate) pairs: KeptSums,
@@ -50,27 +50,27 @@ pub(crate) struct Interner {
     pub(crate) recognized: Recognized,
 }
 
-/// A number for the indexes that follow something of this number.
-fn number_of_indexes(start: u64, indexes: &[u32]) -> u64 {
+/// A number for the games that follow something of this number.
+fn number_of_games(start: u64, games: &[Game]) -> u64 {
     let mut number = start;
-    for index in indexes {
-        number = mixed(number, *index);
+    for game in games {
+        number = mixed(number, game.place() as u64);
     }
     number
 }
 
 /// A number for the form with these options. Those of nimbers are the same on both sides, and are gone through once.
-pub(crate) fn number_of_form(lefts: &[u32], rights: &[u32]) -> u32 {
-    let own = number_of_indexes(1, lefts);
+pub(crate) fn number_of_form(lefts: &[Game], rights: &[Game]) -> u32 {
+    let own = number_of_games(1, lefts);
     if are_equal(lefts, rights) {
         return half_of(own);
     }
-    half_of(number_of_indexes(own.wrapping_add(1), rights))
+    half_of(number_of_games(own.wrapping_add(1), rights))
 }
 
 /// Whether the two lists are the same.
 #[inline(always)]
-pub(crate) fn are_equal(a: &[u32], b: &[u32]) -> bool
+pub(crate) fn are_equal(a: &[Game], b: &[Game]) -> bool
     ensures { IsTrue result → a.now ≡ b.now }
 {
     a == b
@@ -98,7 +98,7 @@ impl Interner {
         }
     }
 
-    /// The place of the handle among those of the indexes.
+    /// The place of the handle among those of the games.
     #[inline(always)]
     fn place(&self, handle: Handle) -> Option<usize>
         requires { AreApart self.now.handles.items self.now.by_id self.now.is_complete }
@@ -113,31 +113,30 @@ impl Interner {
         }
     }
 
-    /// The index of the handle's game, if it has one.
+    /// The handle's game, if it is there.
     #[inline(always)]
-    pub(crate) fn index(&self, handle: Handle) -> Option<u32>
-        requires { AreApart self.now.handles.items self.now.by_id self.now.is_complete }
-        ensures index { IfSome result (λ index. HasHandle self.now index handle) }
+    pub(crate) fn game(&self, handle: Handle) -> Option<Game>
+        requires count { length self.now.handles.items ≡ length self.now.arena }
+        requires apart { AreApart self.now.handles.items self.now.by_id self.now.is_complete }
+        ensures game { IfSome result (λ game. HasHandle self.now game handle) }
         ensures none { IfNone result (IsNew self.now.handles.items handle) }
     {
         match self.place(handle) {
-            Some(place) => Some(place as u32),
+            Some(place) => self.arena.at(place),
             None => None,
         }
     }
 
-    /// The index, if its form has these options.
-    fn form_with(&self, index: u32, lefts: &[u32], rights: &[u32]) -> Option<u32>
+    /// The game at the place, if its form has these options.
+    fn form_with(&self, place: u32, lefts: &[Game], rights: &[Game]) -> Option<Game>
         ensures { IfSome result (λ p. IsAt self.now.arena p (node (games_of self.now.arena lefts.now) (games_of self.now.arena rights.now))) }
     {
-        if index as usize >= self.arena.count() {
-            return None;
-        }
-        match self.arena.read(index) {
+        let game = self.arena.at(place as usize)?;
+        match self.arena.read(game) {
             Read::Number(_) => None,
-            Read::Game(own, others) => {
+            Read::Options(own, others) => {
                 if are_equal(own, lefts) && are_equal(others, rights) {
-                    Some(index)
+                    Some(game)
                 } else {
                     None
                 }
@@ -145,22 +144,22 @@ impl Interner {
         }
     }
 
-    /// The index of the form with these options, if it is found.
-    pub(crate) fn index_of_form(&self, lefts: &[u32], rights: &[u32]) -> Option<u32>
+    /// The form with these options, if it is found.
+    pub(crate) fn game_of_form(&self, lefts: &[Game], rights: &[Game]) -> Option<Game>
         ensures { IfSome result (λ p. IsAt self.now.arena p (node (games_of self.now.arena lefts.now) (games_of self.now.arena rights.now))) }
     {
         self.forms.find(
             number_of_form(lefts, rights),
-            |index| self.form_with(index, lefts, rights),
+            |place| self.form_with(place, lefts, rights),
         )
     }
 
-    /// The handle of the index.
-    pub(crate) fn handle(&self, index: u32) -> Handle
-        requires { index < length self.now.handles.items }
-        ensures { HasHandle self.now index result }
+    /// The handle of the game.
+    pub(crate) fn handle(&self, game: Game) -> Handle
+        requires { game < length self.now.handles.items }
+        ensures { HasHandle self.now game result }
     {
-        self.handles[index as usize]
+        self.handles[game.place()]
     }
 
     /// Gives the game that was added last this handle. There is room for it. Its form is looked for by this number.
@@ -198,22 +197,22 @@ fn place_of(handles: &[Handle], handle: Handle) -> Option<usize>
     None
 }
 
-/// Puts the handles of the indexes into the list, which is empty, in their order. The only error is want of memory.
+/// Puts the handles of the games into the list, which is empty, in their order. The only error is want of memory.
 pub(crate) fn put_handles<B: BoardForms, S: CellStore<GameFacts<B>>>(
     store: &S,
     interner: &Interner,
-    indexes: &[u32],
+    games: &[Game],
     handles: &mut HandleList,
 ) -> Result<(), AllocError>
     requires holds { InternerHolds (S.state store.now) interner.now }
-    requires indexes { AreIndexes interner.now.arena indexes.now }
+    requires games { AreIndexes interner.now.arena games.now }
     requires empty { handles.old.items ≡ [] }
     ensures handles { IfOk result (λ _. AreGames (S.state store.now) handles.new.items
-        × (games_at (S.state store.now) handles.new.items ≡ games_of interner.now.arena indexes.now)) }
+        × (games_at (S.state store.now) handles.new.items ≡ games_of interner.now.arena games.now)) }
 {
-    handles.reserve(indexes.len())?;
-    for index in indexes {
-        handles.push_reserved(interner.handle(*index));
+    handles.reserve(games.len())?;
+    for game in games {
+        handles.push_reserved(interner.handle(*game));
     }
     Ok(())
 }

@@ -7,7 +7,7 @@ ghost use Rattle.cg_canon.specs.Works.{IsUnspent, work_state};
 
 use crate::fault::ValueFault;
 use crate::work::Work;
-use cg_arena::Summary;
+use cg_arena::Charge;
 use cg_cells::CellStore;
 use cg_dyadic::Dyadic;
 use cg_nodes::{BoardForms, GameFacts, Handle, number};
@@ -37,7 +37,7 @@ pub fn number_item<B: BoardForms, S: CellStore<GameFacts<B>>>(
     match x {
         None => Err(ValueFault::Range),
         Some(value) => {
-            work.charge_form(&Summary::number(value), extra)?;
+            work.charge_item(Charge::number(value), extra)?;
             Ok(number(work, value))
         }
     }
@@ -60,7 +60,7 @@ pub fn item_of<B: BoardForms, S: CellStore<GameFacts<B>>>(
     ensures given { let W = work_state S.state work.old in FormGiven W (work_state S.state work.new) (game_at W handle) extra result }
     ensures own { IfOk result (λ h. h ≡ handle) }
 {
-    let summary = work.summary_of(alloc, handle)?;
-    work.charge_form(&summary, extra)?;
+    let charge = work.charge_of(alloc, handle)?;
+    work.charge_item(charge, extra)?;
     Ok(handle)
 }

@@ -1,7 +1,8 @@
-//! Items of forms that stand in the arena, by their indexes.
+//! Items of games of the arena.
 ghost use Rattle.std.specs.Prelude.{◌≡◌, ◌≤◌, IfOk};
 ghost use Rattle.cg_form.specs.Canonical.{Canonical};
-ghost use Rattle.cg_form.specs.Game.{Game, node};
+ghost use Rattle.cg_form.specs.Game as tree;
+ghost use Rattle.cg_form.specs.Game.{node};
 ghost use Rattle.cg_nodes.specs.Can.{can};
 ghost use Rattle.cg_arena.specs.Arena.{AreIndexes, IsIndex, game_of, games_of};
 ghost use Rattle.cg_arena.specs.Terms.{NoneComparableByTerm};
@@ -11,33 +12,33 @@ ghost use Rattle.cg_canon.specs.NumberItems.{number_made};
 ghost use Rattle.cg_canon.specs.Works.{work_state};
 
 use crate::fault::ValueFault;
-use crate::making_at::{canonical_at, given_at, known_at, made_index, number_at};
+use crate::making_at::{canonical_at, given_at, known_at, made_game, number_at};
 use crate::work::Work;
-use cg_arena::FirstTerm;
+use cg_arena::{FirstTerm, Game};
 use cg_cells::CellStore;
 use cg_dyadic::Dyadic;
 use cg_nodes::{BoardForms, GameFacts};
 use std::alloc::Global;
 
 impl<'a, B: BoardForms, S: CellStore<GameFacts<B>>> Work<'a, B, S> {
-    /// Makes the item of the form at the index, with a cost of `extra` more, where `extra` is at most 8.
+    /// Makes the item of the game again, with a cost of `extra` more, where `extra` is at most 8.
     ///
     /// `Depth` comes exactly where its depth is above 512, and else `Full` exactly where its cost and `extra` together
     /// bring the total cost above the share. It takes no memory.
     #[inline(always)]
-    pub fn item_at(&mut self, index: u32, extra: u64) -> Result<u32, ValueFault>
+    pub fn make_again(&mut self, game: Game, extra: u64) -> Result<Game, ValueFault>
         requires extra { extra ≤ 8 }
-        requires index { IsIndex self.old.arena index }
-        ensures item { let g = game_of self.old.arena index in ItemAt (work_state S.state self.old) (work_state S.state self.new)
+        requires game { IsIndex self.old.arena game }
+        ensures item { let g = game_of self.old.arena game in ItemAt (work_state S.state self.old) (work_state S.state self.new)
             self.old.arena self.new.arena (made g extra) g extra result }
-        ensures own { IfOk result (λ i. i ≡ index) }
+        ensures own { IfOk result (λ i. i ≡ game) }
         ensures arena { self.new.arena ≡ self.old.arena }
     {
-        made_index(known_at(
+        made_game(known_at(
             &*self.store,
             &self.cache.memo.interner,
             &mut self.meter,
-            index,
+            game,
             extra,
         ))
     }
@@ -47,13 +48,13 @@ impl<'a, B: BoardForms, S: CellStore<GameFacts<B>>> Work<'a, B, S> {
     ///
     /// `Range` comes exactly for None, and `Full` exactly where its cost and `extra` together bring the total cost
     /// above the share.
-    pub fn number_item_at(&mut self, x: Option<Dyadic>, extra: u64) -> Result<u32, ValueFault>
+    pub fn make_number(&mut self, x: Option<Dyadic>, extra: u64) -> Result<Game, ValueFault>
         requires { extra ≤ 8 }
-        ensures { (form : Game) → IsValue x form → ItemAt (work_state S.state self.old) (work_state S.state self.new)
+        ensures { (form : tree.Game) → IsValue x form → ItemAt (work_state S.state self.old) (work_state S.state self.new)
             self.old.arena self.new.arena (number_made x extra) form extra result }
     {
         match x {
-            Some(value) => made_index(number_at(
+            Some(value) => made_game(number_at(
                 self.store,
                 &mut self.cache.memo.interner,
                 &mut self.meter,
@@ -64,15 +65,15 @@ impl<'a, B: BoardForms, S: CellStore<GameFacts<B>>> Work<'a, B, S> {
         }
     }
 
-    /// Makes the item of a game that is canonical as it is given, by the indexes of its options, with a cost of `extra`
-    /// more, where `extra` is at most 8. `Depth` and `Full` come as in [`Work::item_at`].
-    pub fn form_item_at(
+    /// Makes the item of a game that is canonical as it is given, with a cost of `extra`
+    /// more, where `extra` is at most 8. `Depth` and `Full` come as in [`Work::make_again`].
+    pub fn make_given(
         &mut self,
         alloc: Global,
-        lefts: &[u32],
-        rights: &[u32],
+        lefts: &[Game],
+        rights: &[Game],
         extra: u64,
-    ) -> Result<u32, ValueFault>
+    ) -> Result<Game, ValueFault>
         requires extra { extra ≤ 8 }
         requires lefts { AreIndexes self.old.arena lefts.now }
         requires rights { AreIndexes self.old.arena rights.now }
@@ -80,7 +81,7 @@ impl<'a, B: BoardForms, S: CellStore<GameFacts<B>>> Work<'a, B, S> {
         ensures { let g = node (games_of self.old.arena lefts.now) (games_of self.old.arena rights.now) in
             ItemAt (work_state S.state self.old) (work_state S.state self.new) self.old.arena self.new.arena (made g extra) g extra result }
     {
-        made_index(given_at(
+        made_game(given_at(
             alloc,
             self.store,
             &mut self.cache.memo.interner,
@@ -91,20 +92,20 @@ impl<'a, B: BoardForms, S: CellStore<GameFacts<B>>> Work<'a, B, S> {
         ))
     }
 
-    /// Makes the item of the canonical form of a sum, by the indexes of its options, with a cost of `extra` more, where
+    /// Makes the item of the canonical form of a sum, with a cost of `extra` more, where
     /// `extra` is at most 8. On each side, first stand the options that come from one term, and then those that come
     /// from the other. No two that come from the same term may be comparable.
     ///
     /// `Range` comes exactly where the game equals a number out of range; else `Depth` and `Full` as in
-    /// [`Work::item_at`].
-    pub fn sum_item_at(
+    /// [`Work::make_again`].
+    pub fn make_of_terms(
         &mut self,
         alloc: Global,
-        lefts: &[u32],
-        rights: &[u32],
+        lefts: &[Game],
+        rights: &[Game],
         first_term: FirstTerm,
         extra: u64,
-    ) -> Result<u32, ValueFault>
+    ) -> Result<Game, ValueFault>
         requires extra { extra ≤ 8 }
         requires lefts { AreIndexes self.old.arena lefts.now }
         requires rights { AreIndexes self.old.arena rights.now }
@@ -113,7 +114,7 @@ impl<'a, B: BoardForms, S: CellStore<GameFacts<B>>> Work<'a, B, S> {
         ensures { let g = can (node (games_of self.old.arena lefts.now) (games_of self.old.arena rights.now)) in
             ItemAt (work_state S.state self.old) (work_state S.state self.new) self.old.arena self.new.arena (made g extra) g extra result }
     {
-        made_index(canonical_at(
+        made_game(canonical_at(
             alloc,
             self.store,
             &mut self.cache.memo.interner,

@@ -8,16 +8,17 @@ ghost use Rattle.cg_canon.specs.KeptSums.{IsKeptSum, kept_of};
 
 use crate::lossy_index::{LossyIndex, half_of, mixed};
 use crate::work::Work;
+use cg_arena::Game;
 use cg_cells::CellStore;
 use cg_nodes::{BoardForms, GameFacts};
 use std::alloc::Global;
 
-/// The index of the form of the sum of the games at two indexes, the lesser first.
+/// The form of the sum of two games, the one at the lesser place first.
 #[derive(Clone, Copy)]
 pub(crate) struct KeptSum {
-    low: u32,
-    high: u32,
-    sum: u32,
+    low: Game,
+    high: Game,
+    sum: Game,
 }
 
 /// Sums, and where that of a pair is looked for.
@@ -27,17 +28,21 @@ pub(crate) struct KeptSums {
     places: LossyIndex,
 }
 
-/// A number for the pair. Neither index is mixed into the other, since those of a running sum lie close together.
-fn number_of_pair(low: u32, high: u32) -> u32 {
-    half_of(mixed(mixed(1, low), high))
+/// A number for the pair. Neither place is mixed into the other, since those of a running sum lie close together.
+fn number_of_pair(low: Game, high: Game) -> u32 {
+    half_of(mixed(mixed(1, low.place() as u64), high.place() as u64))
 }
 
-/// The two, the lesser first.
+/// The two, the one at the lesser place first.
 #[inline(always)]
-fn in_order(a: u32, b: u32) -> (u32, u32)
+fn in_order(a: Game, b: Game) -> (Game, Game)
     ensures { ((result.0 ≡ a) × (result.1 ≡ b)) ⊎ ((result.0 ≡ b) × (result.1 ≡ a)) }
 {
-    if a <= b { (a, b) } else { (b, a) }
+    if a.place() <= b.place() {
+        (a, b)
+    } else {
+        (b, a)
+    }
 }
 
 impl KeptSums {
@@ -57,7 +62,7 @@ impl KeptSums {
     }
 
     /// The sum of the entry, if it is that of this pair.
-    fn sum_at(&self, entry: u32, low: u32, high: u32) -> Option<u32>
+    fn sum_at(&self, entry: u32, low: Game, high: Game) -> Option<Game>
         ensures { IfSome result (IsKeptSum self.now low high) }
     {
         let kept = self.sums.get(entry as usize)?;
@@ -69,7 +74,7 @@ impl KeptSums {
 
     /// The sum of the pair, if it is found.
     #[inline(always)]
-    pub fn find(&self, low: u32, high: u32) -> Option<u32>
+    pub fn find(&self, low: Game, high: Game) -> Option<Game>
         ensures { IfSome result (IsKeptSum self.now low high) }
     {
         self.places.find(
@@ -79,7 +84,7 @@ impl KeptSums {
     }
 
     /// Keeps the sum of the pair, unless there is no memory for it.
-    pub fn keep(&mut self, low: u32, high: u32, sum: u32)
+    pub fn keep(&mut self, low: Game, high: Game, sum: Game)
         ensures { (self.new.sums.items ≡ self.old.sums.items)
             ⊎ (self.new.sums.items ≡ self.old.sums.items ++ (kept_of low high sum ∷ [])) }
     {
@@ -90,9 +95,9 @@ impl KeptSums {
 }
 
 impl<'a, B: BoardForms, S: CellStore<GameFacts<B>>> Work<'a, B, S> {
-    /// The index of the form of the sum of the two games, if it was kept and is found.
+    /// The form of the sum of the two games, if it was kept and is found.
     #[inline(always)]
-    pub fn kept_sum(&self, a: u32, b: u32) -> Option<u32>
+    pub fn kept_sum(&self, a: Game, b: Game) -> Option<Game>
         requires a { IsIndex self.now.arena a }
         requires b { IsIndex self.now.arena b }
         ensures { IfSome result (λ i. IsAt self.now.arena i
@@ -102,9 +107,9 @@ impl<'a, B: BoardForms, S: CellStore<GameFacts<B>>> Work<'a, B, S> {
         self.cache.memo.interner.pairs.find(low, high)
     }
 
-    /// Keeps the index of the form of the sum of the two games, in either order, unless there is no memory for it.
+    /// Keeps the form of the sum of the two games, in either order, unless there is no memory for it.
     #[inline(always)]
-    pub fn keep_pair(&mut self, a: u32, b: u32, sum: u32)
+    pub fn keep_pair(&mut self, a: Game, b: Game, sum: Game)
         requires a { IsIndex self.old.arena a }
         requires b { IsIndex self.old.arena b }
         requires sum { IsAt self.old.arena sum (can (sum_of (game_of self.old.arena a) (game_of self.old.arena b))) }

@@ -1,8 +1,7 @@
 //! The order of games and their canonical forms, on handles of a store, with exact costs.
 //!
-//! A work interns the games that it meets: each has an index in the work's arena, with its handle. The arena, the sums
-//! and forms that were made, and what games are known as, are the work's cache, [`Cache`]. Its entries are found by
-//! indexes.
+//! A work interns the games that it meets: each is a [`Game`] of the work's arena, with its handle. The arena, the sums
+//! and forms that were made, and what games are known as, are the work's cache, [`Cache`].
 #![tactic(auto)]
 
 mod again;
@@ -41,7 +40,7 @@ mod written;
 
 pub use again::{charge_again, keep_sum, sum_again};
 pub use cache::Cache;
-pub use cg_arena::{Arena, FirstTerm, Read, Summary};
+pub use cg_arena::{Arena, FirstTerm, Game, Read};
 pub use equality::equal;
 pub use fault::ValueFault;
 pub use forms::{canonical, canonical_item};

@@ -29,8 +29,8 @@ pub(crate) struct LossyIndex {
 }
 
 /// A number for something, with the number of what comes before it.
-pub(crate) fn mixed(before: u64, own: u32) -> u64 {
-    let number = (before ^ own as u64).wrapping_mul(0x9E37_79B9_7F4A_7C15);
+pub(crate) fn mixed(before: u64, own: u64) -> u64 {
+    let number = (before ^ own).wrapping_mul(0x9E37_79B9_7F4A_7C15);
     number ^ (number >> 32)
 }
 
@@ -41,7 +41,7 @@ pub(crate) fn half_of(number: u64) -> u32 {
 
 /// A number for the handle.
 pub(crate) fn number_of_handle(handle: Handle) -> u32 {
-    half_of(mixed(0, handle.id().number()))
+    half_of(mixed(0, u64::from(handle.id().number())))
 }
 
 /// The slot that is tried after so many others, in a table of so many slots.

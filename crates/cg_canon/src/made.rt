@@ -35,7 +35,7 @@ const MOST: usize = 65_536;
 fn number_of(start: u64, handles: &[Handle]) -> u64 {
     let mut number = start;
     for handle in handles {
-        number = mixed(number, handle.id().number());
+        number = mixed(number, u64::from(handle.id().number()));
     }
     number
 }

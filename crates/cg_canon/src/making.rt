@@ -15,18 +15,18 @@ use crate::fault::ValueFault;
 use crate::interner::{Interner, put_handles};
 use crate::made::are_same;
 use crate::meter::Meter;
-use cg_arena::{NewForm, Summary};
+use cg_arena::{Charge, Game, NewForm};
 use cg_cells::CellStore;
 use cg_dyadic::Dyadic;
 use cg_nodes::{BoardForms, GameFacts, Handle, ListId, game, list, number, prefetch_game};
 use smallvec::SmallVec;
 use std::alloc::Global;
 
-/// A form that was made: its handle, and its index, where there was memory to enter it in the arena.
+/// A form that was made: its handle, and its game, where there was memory to enter it in the arena.
 #[derive(Clone, Copy)]
 pub(crate) struct Entered {
     pub handle: Handle,
-    pub index: Option<u32>,
+    pub game: Option<Game>,
 }
 
 /// Enters the form that was made, with this handle, unless it is there or there is no memory for it.
@@ -35,19 +35,19 @@ fn enter_form<B: BoardForms, S: CellStore<GameFacts<B>>>(
     interner: &mut Interner,
     handle: Handle,
     new: &NewForm,
-) -> Option<u32>
+) -> Option<Game>
     requires holds { InternerHolds (S.state store.now) interner.old }
     requires game { IsGame (S.state store.now) handle }
     requires canonical { Canonical (game_at (S.state store.now) handle) }
     requires form { IsNewForm interner.old.arena (game_at (S.state store.now) handle) new.now }
     ensures holds { InternerHolds (S.state store.now) interner.new }
     ensures begins { Begins interner.old.arena interner.new.arena }
-    ensures index { IfSome result (λ i. IsAt interner.new.arena i (game_at (S.state store.now) handle)) }
+    ensures game { IfSome result (λ i. IsAt interner.new.arena i (game_at (S.state store.now) handle)) }
 {
     let lefts = new.form.lefts.as_slice();
     let rights = new.form.rights.as_slice();
     match enter_game(store, interner, handle, lefts, rights, &new.summary) {
-        Ok(index) => Some(index),
+        Ok(game) => Some(game),
         Err(_) => None,
     }
 }
@@ -114,12 +114,12 @@ fn claimed<B: BoardForms, S: CellStore<GameFacts<B>>>(
     ensures holds { InternerHolds (S.state store.new) interner.new }
     ensures begins { Begins interner.old.arena interner.new.arena }
     ensures game { StandsFor (S.state store.new) result.handle (written interner.old.arena new.now) }
-    ensures index { IfSome result.index (λ i. IsAt interner.new.arena i (written interner.old.arena new.now)) }
+    ensures at { IfSome result.game (λ i. IsAt interner.new.arena i (written interner.old.arena new.now)) }
     ensures spends { (n : ℕ) × (n ≤ new.now.summary.cost) × Spends n (S.state store.old) (S.state store.new) }
 {
     let handle = claimed_game(store, lefts, rights);
-    let index = enter_form(&*store, interner, handle, new);
-    Entered { handle, index }
+    let game = enter_form(&*store, interner, handle, new);
+    Entered { handle, game }
 }
 
 /// Makes the item of the canonical form that was found, with a cost of `extra` more.
@@ -145,7 +145,7 @@ pub(crate) fn make_form<B: BoardForms, S: CellStore<GameFacts<B>>>(
     put_handles(&*store, interner, new.form.lefts.as_slice(), &mut lefts)?;
     let mut rights = SmallVec::new(alloc);
     put_handles(&*store, interner, new.form.rights.as_slice(), &mut rights)?;
-    meter.charge_form(&new.summary, extra)?;
+    meter.charge_item(new.summary.charge(), extra)?;
     Ok(claimed(store, interner, lefts.as_slice(), rights.as_slice(), new))
 }
 
@@ -160,6 +160,6 @@ pub(crate) fn make_number<B: BoardForms, S: CellStore<GameFacts<B>>>(
     requires meter { MayPay (S.state store.old) meter.old }
     ensures { IsPaid (S.state store.old) (S.state store.new) meter.old meter.new (number x) extra result }
 {
-    meter.charge_form(&Summary::number(x), extra)?;
+    meter.charge_item(Charge::number(x), extra)?;
     Ok(number(store, x))
 }

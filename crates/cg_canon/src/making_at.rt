@@ -1,4 +1,4 @@
-//! Items of forms by the indexes of the arena of their work.
+//! Items of games of the arena of a work.
 ghost use Rattle.std.specs.Prelude.{◌≡◌, ◌≤◌, IfOk, Some};
 ghost use Rattle.cg_form.specs.Canonical.{Canonical};
 ghost use Rattle.cg_form.specs.Game.{node, number};
@@ -9,7 +9,7 @@ ghost use Rattle.cg_arena.specs.Canonicalized.{IsNewForm};
 ghost use Rattle.cg_arena.specs.Terms.{ApartByTerm};
 ghost use Rattle.cg_canon.specs.Interners.{InternerHolds};
 ghost use Rattle.cg_canon.specs.Ways.{IsWay};
-ghost use Rattle.cg_canon.specs.Paid.{IsEntered, IsPaid, MayPay, handle_in, index_in, written};
+ghost use Rattle.cg_canon.specs.Paid.{IsEntered, IsPaid, MayPay, handle_in, game_in, written};
 
 use crate::entering::enter_number;
 use crate::fault::ValueFault;
@@ -17,37 +17,37 @@ use crate::interner::Interner;
 use crate::making::{Entered, make_form, make_number};
 use crate::meter::Meter;
 use crate::value::{Way, put_both};
-use cg_arena::{Canonicalized, FirstTerm, Form, NewForm, canonicalize, summary_of_lists};
+use cg_arena::{Canonicalized, FirstTerm, Form, Game, NewForm, canonicalize, summary_of_lists};
 use cg_cells::CellStore;
 use cg_dyadic::Dyadic;
 use cg_nodes::{BoardForms, GameFacts, Handle};
 use smallvec::SmallVec;
 use std::alloc::Global;
 
-/// Makes the item of the form at the index, with a cost of `extra` more.
+/// Makes the item of the game, with a cost of `extra` more.
 #[inline(always)]
 #[tactic(auto, using(crate::proofs::InternerSteps::begins_none))]
 pub(crate) fn known_at<B: BoardForms, S: CellStore<GameFacts<B>>>(
     store: &S,
     interner: &Interner,
     meter: &mut Meter,
-    index: u32,
+    game: Game,
     extra: u64,
 ) -> Result<Entered, ValueFault>
     requires extra { extra ≤ 8 }
     requires holds { InternerHolds (S.state store.now) interner.now }
-    requires index { IsIndex interner.now.arena index }
+    requires game { IsIndex interner.now.arena game }
     requires meter { MayPay (S.state store.now) meter.old }
     ensures entered { IsEntered (S.state store.now) (S.state store.now) meter.old meter.new interner.now.arena interner.now.arena
-        (game_of interner.now.arena index) extra result }
-    ensures own { IfOk result (λ e. e.index ≡ Some index) }
+        (game_of interner.now.arena game) extra result }
+    ensures own { IfOk result (λ e. e.game ≡ Some game) }
 {
     // Read for the proof alone: what the meter may pay is what the store has to spare.
     let _ = store;
-    meter.charge_form(interner.arena.summary(index), extra)?;
+    meter.charge_item(interner.arena.charge(game), extra)?;
     Ok(Entered {
-        handle: interner.handle(index),
-        index: Some(index),
+        handle: interner.handle(game),
+        game: Some(game),
     })
 }
 
@@ -68,14 +68,11 @@ pub(crate) fn number_at<B: BoardForms, S: CellStore<GameFacts<B>>>(
     match make_number(store, meter, x, extra) {
         Err(fault) => Err(fault),
         Ok(handle) => match enter_number(&*store, interner, handle, x) {
-            Ok(index) => Ok(Entered {
+            Ok(game) => Ok(Entered {
                 handle,
-                index: Some(index),
+                game: Some(game),
             }),
-            Err(_) => Ok(Entered {
-                handle,
-                index: None,
-            }),
+            Err(_) => Ok(Entered { handle, game: None }),
         },
     }
 }
@@ -98,11 +95,11 @@ fn new_at<B: BoardForms, S: CellStore<GameFacts<B>>>(
     ensures entered { IsEntered (S.state store.old) (S.state store.new) meter.old meter.new interner.old.arena interner.new.arena
         (written interner.old.arena new.now) extra result }
 {
-    if let Some(index) = interner.index_of_form(
+    if let Some(game) = interner.game_of_form(
         new.form.lefts.as_slice(),
         new.form.rights.as_slice(),
     ) {
-        return known_at(&*store, interner, meter, index, extra);
+        return known_at(&*store, interner, meter, game, extra);
     }
     make_form(alloc, store, interner, meter, new, extra)
 }
@@ -113,8 +110,8 @@ pub(crate) fn given_at<B: BoardForms, S: CellStore<GameFacts<B>>>(
     store: &mut S,
     interner: &mut Interner,
     meter: &mut Meter,
-    lefts: &[u32],
-    rights: &[u32],
+    lefts: &[Game],
+    rights: &[Game],
     extra: u64,
 ) -> Result<Entered, ValueFault>
     requires extra { extra ≤ 8 }
@@ -128,8 +125,8 @@ pub(crate) fn given_at<B: BoardForms, S: CellStore<GameFacts<B>>>(
     ensures entered { IsEntered (S.state store.old) (S.state store.new) meter.old meter.new interner.old.arena interner.new.arena
         (node (games_of interner.old.arena lefts.now) (games_of interner.old.arena rights.now)) extra result }
 {
-    if let Some(index) = interner.index_of_form(lefts, rights) {
-        return known_at(&*store, interner, meter, index, extra);
+    if let Some(game) = interner.game_of_form(lefts, rights) {
+        return known_at(&*store, interner, meter, game, extra);
     }
     let summary = summary_of_lists(&interner.arena, lefts, rights);
     let form = Form {
@@ -153,8 +150,8 @@ pub(crate) fn canonical_at<B: BoardForms, S: CellStore<GameFacts<B>>>(
     store: &mut S,
     interner: &mut Interner,
     meter: &mut Meter,
-    lefts: &[u32],
-    rights: &[u32],
+    lefts: &[Game],
+    rights: &[Game],
     first_term: Option<FirstTerm>,
     extra: u64,
 ) -> Result<Entered, ValueFault>
@@ -183,14 +180,14 @@ pub(crate) fn canonical_at<B: BoardForms, S: CellStore<GameFacts<B>>>(
     }
 }
 
-/// The index of what was made. Where there was no memory to enter it there is none.
+/// The game that was made. Where there was no memory to enter it there is none.
 #[inline(always)]
-pub(crate) fn made_index(made: Result<Entered, ValueFault>) -> Result<u32, ValueFault>
-    ensures { result ≡ index_in made }
+pub(crate) fn made_game(made: Result<Entered, ValueFault>) -> Result<Game, ValueFault>
+    ensures { result ≡ game_in made }
 {
     match made {
-        Ok(entered) => match entered.index {
-            Some(index) => Ok(index),
+        Ok(entered) => match entered.game {
+            Some(game) => Ok(game),
             None => Err(ValueFault::Memory),
         },
         Err(fault) => Err(fault),

@@ -41,7 +41,7 @@ pub(crate) struct Memo {
 
 /// A number for a pair of ids.
 fn number_of(a: u32, b: u32) -> u32 {
-    half_of(mixed(mixed(1, a), b))
+    half_of(mixed(mixed(1, u64::from(a)), u64::from(b)))
 }
 
 impl Memo {

@@ -1,4 +1,4 @@
-//! The order of the games of two handles, and of those at two indexes.
+//! The order of two games.
 ghost use Rattle.std.specs.Prelude.{◌≡◌, IfOk};
 ghost use Rattle.cg_form.specs.Order.{le};
 ghost use Rattle.cg_cells.specs.Store.{Spends};
@@ -7,7 +7,7 @@ ghost use Rattle.cg_arena.specs.Arena.{IsIndex, game_of};
 ghost use Rattle.cg_canon.specs.Works.{work_state};
 
 use crate::work::Work;
-use cg_arena::at_most;
+use cg_arena::{Game, at_most};
 use cg_cells::CellStore;
 use cg_nodes::{BoardForms, GameFacts, Handle};
 use std::alloc::{AllocError, Global};
@@ -26,14 +26,14 @@ pub fn le<B: BoardForms, S: CellStore<GameFacts<B>>>(
         ≡ le (game_at (work_state S.state work.old) a) (game_at (work_state S.state work.old) b)) }
     ensures spends { Spends 0 (work_state S.state work.old) (work_state S.state work.new) }
 {
-    let first = work.index(alloc, a)?;
-    let second = work.index(alloc, b)?;
-    work.le_at(first, second)
+    let first = work.game(alloc, a)?;
+    let second = work.game(alloc, b)?;
+    work.le(first, second)
 }
 
 impl<'a, B: BoardForms, S: CellStore<GameFacts<B>>> Work<'a, B, S> {
-    /// Whether a <= b, where the two stand at these indexes. The only error is want of memory.
-    pub fn le_at(&mut self, a: u32, b: u32) -> Result<bool, AllocError>
+    /// Whether a <= b. The only error is want of memory.
+    pub fn le(&mut self, a: Game, b: Game) -> Result<bool, AllocError>
         requires a { IsIndex self.old.arena a }
         requires b { IsIndex self.old.arena b }
         ensures order { IfOk result (λ answer. answer ≡ le (game_of self.old.arena a) (game_of self.old.arena b)) }

@@ -1,7 +1,7 @@
 //! The cells on which sums are noted, for other workers too.
 ghost use Rattle.std.specs.Prelude.{◌≡◌, ◌≤◌, IfOk, IfSome};
 ghost use Rattle.cg_cells.specs.Store.{Spends};
-ghost use Rattle.cg_form.specs.Game.{Game};
+ghost use Rattle.cg_form.specs.Game as tree;
 ghost use Rattle.cg_form.specs.Sum.{sum as sum_of};
 ghost use Rattle.cg_nodes.specs.Can.{can};
 ghost use Rattle.cg_nodes.specs.Games.{IsGame, game_at};
@@ -12,6 +12,7 @@ ghost use Rattle.cg_canon.specs.Notes.{IsNoteOf};
 ghost use Rattle.cg_canon.specs.Works.{work_state};
 
 use crate::work::Work;
+use cg_arena::Game;
 use cg_cells::{CellStore, Id, Key};
 use cg_nodes::{BoardForms, GameFacts, Handle};
 use std::alloc::{AllocError, Global};
@@ -54,7 +55,7 @@ fn ordered_pair<B: BoardForms, S: CellStore<GameFacts<B>>>(
 impl<'a, B: BoardForms, S: CellStore<GameFacts<B>>> Work<'a, B, S> {
     /// The cell of the pair of the two games, on which their sum is noted: one cell for either order of the two. It
     /// spends one claim.
-    pub fn pair_cell(&mut self, a: u32, b: u32) -> Id
+    pub fn pair_cell(&mut self, a: Game, b: Game) -> Id
         requires spare { 1 ≤ (work_state S.state self.old).spare }
         requires a { IsIndex self.old.arena a }
         requires b { IsIndex self.old.arena b }
@@ -63,15 +64,15 @@ impl<'a, B: BoardForms, S: CellStore<GameFacts<B>>> Work<'a, B, S> {
         ensures spends { Spends 1 (work_state S.state self.old) (work_state S.state self.new) }
         ensures arena { self.new.arena ≡ self.old.arena }
     {
-        let first = self.handle_at(a);
-        let second = self.handle_at(b);
+        let first = self.handle(a);
+        let second = self.handle(b);
         pair(self.store, first, second)
     }
 
-    /// The index of the form that is noted on the cell, if one is. The only error is want of memory.
-    pub fn noted_sum(&mut self, alloc: Global, cell: Id) -> Result<Option<u32>, AllocError>
-        requires { (g : Game) × IsNoteOf (game_meaning B.form) (work_state S.state self.old) cell g }
-        ensures sum { (g : Game) → IsNoteOf (game_meaning B.form) (work_state S.state self.old) cell g
+    /// The form that is noted on the cell, if one is. The only error is want of memory.
+    pub fn noted_sum(&mut self, alloc: Global, cell: Id) -> Result<Option<Game>, AllocError>
+        requires { (g : tree.Game) × IsNoteOf (game_meaning B.form) (work_state S.state self.old) cell g }
+        ensures sum { (g : tree.Game) → IsNoteOf (game_meaning B.form) (work_state S.state self.old) cell g
             → IfOk result (λ o. IfSome o (λ i. IsAt self.new.arena i (can g))) }
         ensures begins { Begins self.old.arena self.new.arena }
         ensures spends { Spends 0 (work_state S.state self.old) (work_state S.state self.new) }
@@ -79,19 +80,19 @@ impl<'a, B: BoardForms, S: CellStore<GameFacts<B>>> Work<'a, B, S> {
         match self.store.noted(cell) {
             None => Ok(None),
             Some(value) => {
-                let index = self.index(alloc, Handle::of(value))?;
-                Ok(Some(index))
+                let game = self.game(alloc, Handle::of(value))?;
+                Ok(Some(game))
             }
         }
     }
 
-    /// Notes the form at the index on the cell.
-    pub fn note_sum(&mut self, cell: Id, sum: u32)
-        requires { (g : Game) × IsNoteOf (game_meaning B.form) (work_state S.state self.old) cell g × IsAt self.old.arena sum (can g) }
+    /// Notes the form on the cell.
+    pub fn note_sum(&mut self, cell: Id, sum: Game)
+        requires { (g : tree.Game) × IsNoteOf (game_meaning B.form) (work_state S.state self.old) cell g × IsAt self.old.arena sum (can g) }
         ensures spends { Spends 0 (work_state S.state self.old) (work_state S.state self.new) }
         ensures arena { self.new.arena ≡ self.old.arena }
     {
-        let value = self.handle_at(sum).id();
+        let value = self.handle(sum).id();
         self.store.note(cell, value);
     }
 }

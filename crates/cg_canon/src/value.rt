@@ -1,11 +1,11 @@
-//! What games of lists of handles are, by the indexes of an interner.
+//! What games of lists of handles are, in an arena.
 ghost use Rattle.std.specs.Prelude.{◌≡◌, IfOk, []};
 ghost use Rattle.cg_cells.specs.Store.{Spends};
 ghost use Rattle.cg_nodes.specs.Games.{AreGames, games_at};
 ghost use Rattle.cg_arena.specs.Arena.{StandFor};
 ghost use Rattle.cg_canon.specs.Interners.{InternerHolds};
 
-use crate::indexing::put_indexes;
+use crate::indexing::put_games;
 use crate::interner::Interner;
 use crate::made::are_same;
 use cg_arena::Form;
@@ -14,7 +14,7 @@ use cg_nodes::{BoardForms, GameFacts, Handle};
 use smallvec::SmallVec;
 use std::alloc::{AllocError, Global};
 
-/// Puts the indexes of two lists of options into a form that has none. Both lists of a nimber are the same, and are
+/// Puts the games of two lists of options into a form that has none. Both lists of a nimber are the same, and are
 /// gone through once.
 #[inline(always)]
 pub(crate) fn put_both<B: BoardForms, S: CellStore<GameFacts<B>>>(
@@ -35,12 +35,12 @@ pub(crate) fn put_both<B: BoardForms, S: CellStore<GameFacts<B>>>(
     ensures rights { IfOk result (λ _. StandFor interner.new.arena form.new.rights.items (games_at (S.state store.old) rights.now)) }
     ensures spends { Spends 0 (S.state store.old) (S.state store.new) }
 {
-    put_indexes(alloc, store, interner, lefts, &mut form.lefts)?;
+    put_games(alloc, store, interner, lefts, &mut form.lefts)?;
     if are_same(lefts, rights) {
         form.rights = SmallVec::from_slice(alloc, form.lefts.as_slice())?;
         return Ok(());
     }
-    put_indexes(alloc, store, interner, rights, &mut form.rights)?;
+    put_games(alloc, store, interner, rights, &mut form.rights)?;
     Ok(())
 }
 

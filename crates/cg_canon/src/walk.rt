@@ -6,21 +6,22 @@ ghost use Rattle.std.specs.Prelude.{◌≡◌, ℕ, ◌<◌, ◌≤◌, ◌^◌,
 ghost use Rattle.std.specs.Prelude.{IsTrue, List, OnOk, Err, get_or, length, false};
 ghost use Rattle.cg_form.specs.Canonical.{Canonical};
 ghost use Rattle.cg_form.specs.Extended.{positions_before};
-ghost use Rattle.cg_form.specs.Game.{Among, Game};
+ghost use Rattle.cg_form.specs.Game as tree;
+ghost use Rattle.cg_form.specs.Game.{Among};
 ghost use Rattle.cg_arena.specs.Arena.{AreIndexes, IsIndex, game_of, games_of};
 ghost use Rattle.cg_canon.specs.Walk.{IsPlace};
 ghost use Rattle.cg_canon.specs.Walking.{Appended, AreApart, AreMarked, HasPlace, found_in};
 
 use crate::number_up_star::zero;
-use cg_arena::{Arena, Read};
+use cg_arena::{Arena, Game, Read};
 use cg_nodes::PositionsFault;
 use std::alloc::{AllocError, Global};
 
 /// A position of a game, and where its options are listed.
 #[derive(Clone, Copy)]
 pub struct Position {
-    /// The index of its game.
-    pub index: u32,
+    /// Its game.
+    pub game: Game,
     /// Where its Left options begin among the options of all positions.
     pub lefts: usize,
     /// Where its Right options begin.
@@ -60,75 +61,75 @@ impl Walk {
         })
     }
 
-    /// Whether the position at the place that the mark of the index says is that of this index.
-    pub(crate) fn has(&self, marks: &[usize], index: u32) -> bool
-        requires { index < length marks.now }
-        ensures found { IsTrue result → HasPlace self.now.positions.items (get_or marks.now index 0) index }
-        ensures none { result ≡ false → ¬ HasPlace self.now.positions.items (get_or marks.now index 0) index }
+    /// Whether the position at the place that the mark of the game says is that of this game.
+    pub(crate) fn has(&self, marks: &[usize], game: Game) -> bool
+        requires { game < length marks.now }
+        ensures found { IsTrue result → HasPlace self.now.positions.items (get_or marks.now game 0) game }
+        ensures none { result ≡ false → ¬ HasPlace self.now.positions.items (get_or marks.now game 0) game }
     {
-        match self.positions.get(marks[index as usize]) {
-            Some(position) => position.index == index,
+        match self.positions.get(marks[game.place()]) {
+            Some(position) => position.game == game,
             None => false,
         }
     }
 
-    /// Puts the places of the games at these indexes, which were all found, behind the options.
+    /// Puts the places of these games, which were all found, behind the options.
     fn put_options(
         &mut self,
         arena: &Arena,
         marks: &[usize],
-        indexes: &[u32],
+        games: &[Game],
     ) -> Result<(), AllocError>
         requires apart { AreApart arena.now }
         requires marked { AreMarked arena.now marks.now self.old.positions.items }
-        requires indexes { AreIndexes arena.now indexes.now }
-        requires found { (g : Game) → Among g (games_of arena.now indexes.now) → Among g (found_in arena.now self.old.positions.items) }
+        requires games { AreIndexes arena.now games.now }
+        requires found { (g : tree.Game) → Among g (games_of arena.now games.now) → Among g (found_in arena.now self.old.positions.items) }
         ensures positions { self.new.positions.items ≡ self.old.positions.items }
-        ensures options { OnOk result (Appended self.old.positions.items self.old.options.items self.new.options.items indexes.now) }
+        ensures options { OnOk result (Appended self.old.positions.items self.old.options.items self.new.options.items games.now) }
     {
         // Read for the proof alone: the marks of these games are their places.
         let _ = arena;
-        for index in indexes {
-            self.options.push(marks[*index as usize])?;
+        for game in games {
+            self.options.push(marks[game.place()])?;
         }
         Ok(())
     }
 
-    /// The position of the game at the index, which is the next one. The places of its options are put behind the
+    /// The position of the game, which is the next one. The places of its options are put behind the
     /// options.
     pub(crate) fn position(
         &mut self,
         arena: &Arena,
         marks: &[usize],
-        index: u32,
+        game: Game,
     ) -> Result<Position, AllocError>
         requires apart { AreApart arena.now }
         requires marked { AreMarked arena.now marks.now self.old.positions.items }
-        requires index { IsIndex arena.now index }
-        requires found { (g : Game) → Among g (positions_before (game_of arena.now index)) → Among g (found_in arena.now self.old.positions.items) }
+        requires game { IsIndex arena.now game }
+        requires found { (g : tree.Game) → Among g (positions_before (game_of arena.now game)) → Among g (found_in arena.now self.old.positions.items) }
         ensures positions { self.new.positions.items ≡ self.old.positions.items }
         ensures more { OnOk result ((more : List ℕ) × (self.new.options.items ≡ self.old.options.items ++ more)) }
-        ensures canonical { OnOk result (Canonical (game_of arena.now index)) }
-        ensures index { IfOk result (λ p. p.index ≡ index) }
+        ensures canonical { OnOk result (Canonical (game_of arena.now game)) }
+        ensures game { IfOk result (λ p. p.game ≡ game) }
         ensures place { IfOk result (IsPlace self.new.options.items
-            (found_in arena.now self.old.positions.items ++ (game_of arena.now index ∷ [])) (length self.old.positions.items)) }
+            (found_in arena.now self.old.positions.items ++ (game_of arena.now game ∷ [])) (length self.old.positions.items)) }
     {
         let lefts = self.options.len();
-        match arena.read(index) {
+        match arena.read(game) {
             Read::Number(x) => Ok(Position {
-                index,
+                game,
                 lefts,
                 rights: lefts,
                 end: lefts,
                 is_number: true,
                 is_zero: x == zero(),
             }),
-            Read::Game(left_options, right_options) => {
+            Read::Options(left_options, right_options) => {
                 self.put_options(arena, marks, left_options)?;
                 let rights = self.options.len();
                 self.put_options(arena, marks, right_options)?;
                 Ok(Position {
-                    index,
+                    game,
                     lefts,
                     rights,
                     end: self.options.len(),
@@ -139,20 +140,20 @@ impl Walk {
         }
     }
 
-    /// Adds the next position, and marks its index, unless there are so many positions.
+    /// Adds the next position, and marks its game, unless there are so many positions.
     pub(crate) fn add(
         &mut self,
         marks: &mut [usize],
         position: Position,
         limit: u64,
     ) -> Result<(), PositionsFault>
-        requires room { position.index < length marks.old }
+        requires room { position.game < length marks.old }
         requires within { length self.old.positions.items ≤ limit }
         ensures positions { OnOk result (self.new.positions.items ≡ self.old.positions.items ++ (position ∷ [])) }
         ensures options { self.new.options.items ≡ self.old.options.items }
         ensures room { length marks.new ≡ length marks.old }
-        ensures own { OnOk result (get_or marks.new position.index 0 ≡ length self.old.positions.items) }
-        ensures others { OnOk result ((i : ℕ) → ¬ (i ≡ position.index) → get_or marks.new i 0 ≡ get_or marks.old i 0) }
+        ensures own { OnOk result (get_or marks.new position.game 0 ≡ length self.old.positions.items) }
+        ensures others { OnOk result ((i : ℕ) → ¬ (i ≡ position.game) → get_or marks.new i 0 ≡ get_or marks.old i 0) }
         ensures within { OnOk result (length self.old.positions.items < limit) }
         ensures refused { result ≡ Err PositionsFault.Positions → (limit ≡ length self.old.positions.items) × (limit < 2 ^ 63) }
     {
@@ -160,8 +161,9 @@ impl Walk {
         if place as u64 >= limit {
             return Err(PositionsFault::Positions);
         }
+        let own = position.game.place();
         self.positions.push(position)?;
-        marks[position.index as usize] = place;
+        marks[own] = place;
         Ok(())
     }
 }

@@ -2,7 +2,7 @@
 ghost use Rattle.std.specs.Prelude.{◌≡◌, ◌+◌, ◌<◌, ◌-◌, ◌≤◌, ◌^◌, ◌↔◌, IfOk};
 ghost use Rattle.std.specs.Prelude.{IfErr, IsTrue, OnOk, OnErr, [], ◌∷◌, false};
 ghost use Rattle.cg_form.specs.Game.{Game};
-ghost use Rattle.cg_arena.specs.Summaries.{IsSummary};
+ghost use Rattle.cg_arena.specs.Costs.{IsCharge};
 ghost use Rattle.cg_canon.specs.Cache.{CacheHolds};
 ghost use Rattle.cg_canon.specs.Items.{AllPass, WasRefused, made};
 ghost use Rattle.cg_canon.specs.Works.{MeterHolds, WorkOf, work_code, work_state};
@@ -11,7 +11,7 @@ use crate::cache::Cache;
 use crate::fault::ValueFault;
 use crate::meter::Meter;
 use crate::rest::WorkRest;
-use cg_arena::Summary;
+use cg_arena::Charge;
 use cg_cells::{CellStore, Id, Key};
 use cg_nodes::{BoardForms, GameFacts};
 use std::alloc::Global;
@@ -145,21 +145,21 @@ impl<'a, B: BoardForms, S: CellStore<GameFacts<B>>> Work<'a, B, S> {
         true
     }
 
-    /// Charges the item of the form with this summary, with a cost of `extra` more, unless it is too deep or too dear.
-    pub(crate) fn charge_form(&mut self, summary: &Summary, extra: u64) -> Result<(), ValueFault>
+    /// Charges the item of a form, with a cost of `extra` more, unless it is too deep or too dear.
+    pub(crate) fn charge_item(&mut self, charge: Charge, extra: u64) -> Result<(), ValueFault>
         requires extra { extra ≤ 8 }
-        requires small { summary.now.cost < 2 ^ 63 }
-        ensures ok { IfOk result (λ _. self.new ≡ record self.old { spent = self.old.spent + (summary.now.cost + extra) }) }
+        requires small { charge.cost < 2 ^ 63 }
+        ensures ok { IfOk result (λ _. self.new ≡ record self.old { spent = self.old.spent + (charge.cost + extra) }) }
         ensures room { OnOk result ((work_state S.state self.new).spare
-            ≡ (work_state S.state self.old).spare + (summary.now.cost + extra)) }
-        ensures charged { (g : Game) → IsSummary g summary.now
+            ≡ (work_state S.state self.old).spare + (charge.cost + extra)) }
+        ensures charged { (g : Game) → IsCharge g charge
             → OnOk result (AllPass self.old.share self.old.spent (made g extra ∷ []) self.new.spent) }
-        ensures refused { (g : Game) → IsSummary g summary.now
+        ensures refused { (g : Game) → IsCharge g charge
             → IfErr result (λ fault. WasRefused fault self.old.share self.old.spent (made g extra ∷ []) self.new.spent) }
         ensures memory { IfErr result (λ fault. ¬ (fault ≡ ValueFault.Memory)) }
         ensures same { OnErr result (self.new ≡ self.old) }
     {
-        self.meter.charge_form(summary, extra)
+        self.meter.charge_item(charge, extra)
     }
 }
 

@@ -9,7 +9,7 @@ ghost use Rattle.cg_canon.specs.Works.{work_state};
 
 use crate::interner::{HandleList, put_handles};
 use crate::work::Work;
-use cg_arena::Read;
+use cg_arena::{Game, Read};
 use cg_cells::CellStore;
 use cg_dyadic::Dyadic;
 use cg_nodes::{BoardForms, GameFacts, Handle};
@@ -26,13 +26,13 @@ pub enum Written {
 }
 
 impl<'a, B: BoardForms, S: CellStore<GameFacts<B>>> Work<'a, B, S> {
-    /// The handles of the games at the indexes, in their order. The only error is want of memory.
-    fn handles_at(&self, alloc: Global, indexes: &[u32]) -> Result<HandleList, AllocError>
-        requires { AreIndexes self.now.arena indexes.now }
-        ensures { IfOk result (λ all. StandFor (work_state S.state self.now) all.items (games_of self.now.arena indexes.now)) }
+    /// The handles of the games, in their order. The only error is want of memory.
+    fn handles_at(&self, alloc: Global, games: &[Game]) -> Result<HandleList, AllocError>
+        requires { AreIndexes self.now.arena games.now }
+        ensures { IfOk result (λ all. StandFor (work_state S.state self.now) all.items (games_of self.now.arena games.now)) }
     {
         let mut all = SmallVec::new(alloc);
-        put_handles(&*self.store, &self.cache.memo.interner, indexes, &mut all)?;
+        put_handles(&*self.store, &self.cache.memo.interner, games, &mut all)?;
         Ok(all)
     }
 
@@ -45,12 +45,12 @@ impl<'a, B: BoardForms, S: CellStore<GameFacts<B>>> Work<'a, B, S> {
         ensures canonical { OnOk result (Canonical (game_at (work_state S.state self.old) a)) }
         ensures spends { Spends 0 (work_state S.state self.old) (work_state S.state self.new) }
     {
-        let index = self.index(alloc, a)?;
-        match self.read_at(index) {
+        let game = self.game(alloc, a)?;
+        match self.arena().read(game) {
             Read::Number(x) => Ok(Written::Number(x)),
-            Read::Game(left_indexes, right_indexes) => {
-                let lefts = self.handles_at(alloc, left_indexes)?;
-                let rights = self.handles_at(alloc, right_indexes)?;
+            Read::Options(left_games, right_games) => {
+                let lefts = self.handles_at(alloc, left_games)?;
+                let rights = self.handles_at(alloc, right_games)?;
                 Ok(Written::Options(lefts, rights))
             }
         }

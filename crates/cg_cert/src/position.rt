@@ -7,19 +7,19 @@ ghost use Rattle.cg_arena.specs.Arena.{IsRead};
 ghost use Rattle.cg_cert.specs.Pairs.{is_number};
 ghost use Rattle.cg_cert.specs.Positions.{IsPosition, ArePositionsOf, position_at};
 
-use cg_canon::{Read, Work};
+use cg_canon::{Game, Read, Work};
 use cg_cells::CellStore;
 use cg_dyadic::Dyadic;
 use cg_nodes::{BoardForms, GameFacts};
 use std::alloc::{AllocError, Global};
 
-/// A game of a certificate: a number, which need not stand in the arena, or the game at an index.
+/// A game of a certificate: a number, which need not stand in the arena, or a game of the arena.
 #[derive(Clone, Copy, Debug, PartialEq, Eq)]
 pub(crate) enum Position {
     /// A number.
     Number(Dyadic),
-    /// The game at an index.
-    At(u32),
+    /// A game of the arena.
+    At(Game),
 }
 
 /// Whether a <= b. The only error is want of memory.
@@ -36,11 +36,11 @@ fn position_le<B: BoardForms, S: CellStore<GameFacts<B>>>(
     match a {
         Position::Number(x) => match b {
             Position::Number(y) => Ok(x.le(*y)),
-            Position::At(h) => Ok(work.number_le_at(*x, *h)),
+            Position::At(h) => Ok(work.arena().number_le(*x, *h)),
         },
         Position::At(g) => match b {
-            Position::Number(y) => Ok(work.le_number_at(*g, *y)),
-            Position::At(h) => work.le_at(*g, *h),
+            Position::Number(y) => Ok(work.arena().le_number(*g, *y)),
+            Position::At(h) => work.le(*g, *h),
         },
     }
 }
@@ -76,7 +76,7 @@ fn read<'b, B: BoardForms, S: CellStore<GameFacts<B>>>(
 {
     match position {
         Position::Number(x) => Read::Number(*x),
-        Position::At(index) => work.read_at(*index),
+        Position::At(game) => work.arena().read(*game),
     }
 }
 
@@ -90,12 +90,12 @@ pub(crate) fn is_number<B: BoardForms, S: CellStore<GameFacts<B>>>(
 {
     match read(work, position) {
         Read::Number(_) => true,
-        Read::Game(_, _) => false,
+        Read::Options(_, _) => false,
     }
 }
 
 /// The player's own of the two lists.
-fn own<'b>(left: bool, lefts: &'b [u32], rights: &'b [u32]) -> &'b [u32]
+fn own<'b>(left: bool, lefts: &'b [Game], rights: &'b [Game]) -> &'b [Game]
     ensures { result.now ≡ cond left lefts.now rights.now }
 {
     if left { lefts } else { rights }
@@ -117,13 +117,13 @@ fn options_of_number(alloc: Global, left: bool, x: Dyadic) -> Result<Vec<Positio
     Ok(all)
 }
 
-/// The positions at these indexes.
-fn positions_at(alloc: Global, indexes: &[u32]) -> Result<Vec<Position>, AllocError>
-    ensures { IfOk result (λ all. all.items ≡ map Position.At indexes.now) }
+/// The positions of these games.
+fn positions_at(alloc: Global, games: &[Game]) -> Result<Vec<Position>, AllocError>
+    ensures { IfOk result (λ all. all.items ≡ map Position.At games.now) }
 {
     let mut all = Vec::new(alloc);
-    for index in indexes {
-        all.push(Position::At(*index))?;
+    for game in games {
+        all.push(Position::At(*game))?;
     }
     Ok(all)
 }
@@ -140,6 +140,6 @@ pub(crate) fn options<B: BoardForms, S: CellStore<GameFacts<B>>>(
 {
     match read(work, position) {
         Read::Number(x) => options_of_number(alloc, left, x),
-        Read::Game(lefts, rights) => positions_at(alloc, own(left, lefts, rights)),
+        Read::Options(lefts, rights) => positions_at(alloc, own(left, lefts, rights)),
     }
 }

@@ -35,8 +35,8 @@ pub(crate) fn stage_of<B: BoardForms, S: CellStore<GameFacts<B>>>(
         ≡ pair (game_at (work_state S.state work.old) g) (game_at (work_state S.state work.old) h)) }
     ensures spends { Spends 0 (work_state S.state work.old) (work_state S.state work.new) }
 {
-    let first = work.index(alloc, g)?;
-    let second = work.index(alloc, h)?;
+    let first = work.game(alloc, g)?;
+    let second = work.game(alloc, h)?;
     Ok(Stage {
         first: Position::At(first),
         second: Position::At(second),

@@ -1,5 +1,5 @@
 -- Lists of indexes of an arena, and their games.
-use Rattle.std.proofs.Common.{◌≡◌, refl, ℕ, List, [], ◌∷◌}
+use Rattle.std.proofs.Common.{◌≡◌, ◌∙◌, ap, refl, ℕ, List, [], ◌∷◌}
 use Rattle.std.specs.Prelude.{slice_index_or}
 use Rattle.std.proofs.lemmas.List.Elements.{All-head, All-tail}
 use Rattle.cg_form.specs.Game.{Game}
@@ -20,7 +20,9 @@ same_indexes gs a (p ∷ ps) (q ∷ qs) m n e =
     cc
 
 -- the first game is that of the first index
-pub first_is : (gs : List Game) (ps : List ℕ) (h : Game) (hs : List Game) → games_of gs ps ≡ h ∷ hs
-    → game_of gs (slice_index_or ps 0 0) ≡ h
-first_is gs [] h hs e = absurd (cc)
-first_is gs (p ∷ ps) h hs e = cc
+pub first_is : (gs : List Game) (ps : List ℕ) (k : ℕ) (h : Game) (hs : List Game) → k ≡ slice_index_or ps 0 k → games_of gs ps ≡ h ∷ hs
+    → game_of gs k ≡ h
+first_is gs [] k h hs is e = absurd (cc)
+first_is gs (p ∷ ps) k h hs is e =
+    let first : game_of gs p ≡ h = cc in
+    ap (game_of gs) is ∙ first

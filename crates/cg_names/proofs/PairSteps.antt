@@ -1,6 +1,6 @@
 -- Two numbers and the game of both, made one after another.
-use Rattle.std.proofs.Common.{◌≡◌, refl, ap, sym, ◌∙◌, ℕ, ◌+◌, List, [], ◌∷◌, ◌++◌, append-nil}
-use Rattle.std.proofs.Common.{length, length-append, Bool, true, false, Result, Ok, Err}
+use Rattle.std.proofs.Common.{◌≡◌, ap, sym, ◌∙◌, ℕ, ◌+◌, List, [], ◌∷◌, ◌++◌}
+use Rattle.std.proofs.Common.{length, length-append, Bool, true, false}
 use Rattle.std.specs.Prelude.{cond}
 use Rattle.cg_dyadic.specs.Number.{Number, NumberLe}
 use Rattle.cg_form.specs.Canonical.{Canonical}
@@ -10,12 +10,9 @@ use Rattle.cg_nodes.specs.Games.{StandsFor, game_at, games_at}
 use Rattle.cg_nodes.specs.Meant.{Meant}
 use Rattle.cg_form.specs.Positions.{positions_of}
 use Rattle.cg_nodes.proofs.Later.{stands_game}
-use Rattle.cg_canon.specs.declared.fault.ValueFault.{ValueFault}
-use Rattle.cg_canon.specs.declared.rest.WorkRest.{WorkRest}
 use Rattle.cg_dyadic.specs.Exact.{number_negative}
 use Rattle.cg_names.specs.Named.{first_number, mirrored_if, other_numbers, pair_form, pair_positions}
 use Rattle.cg_names.specs.Named.{second_number, switch_form, tiny_form, tiny_part, zero_form, zero_number}
-use Rattle.cg_names.proofs.Steps.{FormsMade, forms_after, forms_stopped}
 use Rattle.cg_names.proofs.SwitchForms.{switch-canonical, tiny_part-canonical}
 use Rattle.cg_names.proofs.SwitchPositions.{other_none, other_one, switch-positions, tiny-positions}
 
@@ -78,29 +75,3 @@ module _ {R : Type 0} (v : State Meant R) where
       ap (λ g. mirrored_if miny (g ∷ []) (game_at v part ∷ [])) (stands_game v z zero_form s)
       ∙ ap (λ g. mirrored_if miny (zero_form ∷ []) (g ∷ [])) (stands_game v part (pair_form a b) t
       ∙ tiny_pair-is miny x a b e f)
-
--- ---- one after another
-
-module _ {R : Type 0} (w v u : State Meant (WorkRest R)) (x y : Number) (r : Result ℕ ValueFault) (h : ℕ) (ok : r ≡ Ok h)
-    (m : FormsMade w v (number x ∷ []) r) (q : Result ℕ ValueFault) (n : FormsMade v u (other_numbers x y) q) where
-  numbers_made : FormsMade w u (number x ∷ other_numbers x y) q
-  numbers_made = forms_after w v u (number x ∷ []) (other_numbers x y) (number x ∷ other_numbers x y) r h q ok m n refl
-
-  pub pair_second_refused : {T : Type 0} (o : Result T ValueFault) (fault : ValueFault) → q ≡ Err fault → o ≡ Err fault
-      → FormsMade w u (pair_positions x y) o
-  pair_second_refused o fault e f =
-      forms_stopped w u (number x ∷ other_numbers x y) (pair_form x y ∷ []) (pair_positions x y) q o fault e f numbers_made
-      refl
-
-  module _ (t : State Meant (WorkRest R)) (k : ℕ) (fine : q ≡ Ok k) (o : Result ℕ ValueFault)
-      (l : FormsMade u t (pair_form x y ∷ []) o) where
-    pub pair_all : FormsMade w t (pair_positions x y) o
-    pair_all =
-        forms_after w u t (number x ∷ other_numbers x y) (pair_form x y ∷ []) (pair_positions x y) q k o fine numbers_made l
-        refl
-
-    pub pair_game_refused : {T : Type 0} (p : Result T ValueFault) (fault : ValueFault) → o ≡ Err fault → p ≡ Err fault
-        → FormsMade w t (pair_positions x y) p
-    pair_game_refused p fault e f =
-        forms_stopped w t (pair_positions x y) [] (pair_positions x y) o p fault e f pair_all
-        (sym (append-nil (pair_positions x y)))

@@ -1,75 +1,28 @@
 -- Forms that are made one after another.
-use Rattle.std.proofs.Common.{◌≡◌, refl, ap, sym, ◌∙◌, ℕ, ◌<◌, ◌≤◌, arith, List, [], ◌∷◌, ◌++◌, map, Result, Ok, Err, Bool, true, false}
+use Rattle.std.proofs.Common.{◌≡◌, refl, ap, ◌∙◌, ℕ, ◌<◌, ◌≤◌, arith, List, [], ◌∷◌, ◌++◌, map, Result, Err, Bool, true, false}
 use Rattle.std.specs.Prelude.{length, nat_lt, if◌then◌else◌}
 use Rattle.std.proofs.lemmas.Bool.Decides.{nat_tests}
 use Rattle.std.proofs.lemmas.List.{map-append}
 use Rattle.cg_dyadic.proofs.Truth.{less-nat_lt}
 use Rattle.cg_form.specs.Game.{Game, node}
 use Rattle.cg_cells.specs.Store.{State}
-use Rattle.cg_nodes.specs.Games.{StandsFor}
 use Rattle.cg_nodes.specs.Meant.{Meant}
 use Rattle.cg_form.specs.Positions.{positions_of}
 use Rattle.cg_canon.specs.declared.fault.ValueFault.{ValueFault}
 use Rattle.cg_canon.specs.declared.fault.ValueFault.TheVariants.{Positions}
 use Rattle.cg_canon.specs.Items.{IsStopped, Item, too_many}
-use Rattle.cg_canon.specs.Made.{Gives, ItemsMade}
+use Rattle.cg_canon.specs.Made.{Gives}
 use Rattle.cg_canon.specs.declared.rest.WorkRest.{WorkRest}
 use Rattle.cg_canon.proofs.ItemLaws.{stopped-one}
 use Rattle.cg_canon.proofs.Keeping.{keeps_all}
-use Rattle.cg_canon.proofs.MadeSteps.{made_after, made_as, stopped}
 use Rattle.cg_names.specs.Lists.{form_items, plain_item}
 use Rattle.cg_names.specs.Named.{mirrored_if}
 
 -- ---- one call after another
 
-abbrev pub FormsMade : {R T : Type 0} → State Meant (WorkRest R) → State Meant (WorkRest R) → List Game
-    → Result T ValueFault → Type 0
-FormsMade {R} {T} s t forms result = ItemsMade s t (map plain_item forms) result
-
-module _ {R T U : Type 0} (s t : State Meant (WorkRest R)) where
-  -- the forms of one call, and then those of another
-  pub forms_after : (u : State Meant (WorkRest R)) (gs hs all : List Game) (r : Result T ValueFault) (h : T)
-      (q : Result U ValueFault) → r ≡ Ok h → FormsMade s t gs r → FormsMade t u hs q → all ≡ gs ++ hs
-      → FormsMade s u all q
-  forms_after u gs hs all r h q e m n is =
-      made_as s u (map plain_item gs ++ map plain_item hs) (map plain_item all) q
-      (sym (map-append plain_item gs hs) ∙ ap (map plain_item) (sym is))
-      (made_after s t u (map plain_item gs) (map plain_item hs) r h q e m n)
-
-  -- a refusal, where other forms would have followed
-  pub forms_stopped : (gs back all : List Game) (r : Result T ValueFault) (q : Result U ValueFault) (fault : ValueFault)
-      → r ≡ Err fault → q ≡ Err fault → FormsMade s t gs r → all ≡ gs ++ back → FormsMade s t all q
-  forms_stopped gs back all r q fault e f m is =
-      made_as s t (map plain_item gs ++ map plain_item back) (map plain_item all) q
-      (sym (map-append plain_item gs back) ∙ ap (map plain_item) (sym is))
-      (stopped s t (map plain_item gs) (map plain_item back) r q fault e f m)
-
-module _ {R : Type 0} (s t : State Meant (WorkRest R)) where
-  pub given_game : (items : List Item) (f : Game) (r : Result ℕ ValueFault) (h : ℕ) → r ≡ Ok h → Gives s t items f r
-      → StandsFor t h f
-  given_game items f r h e m =
-      rw e at m.game
-
-  pub given_refused : (items : List Item) (f : Game) (q : Result ℕ ValueFault) (fault : ValueFault) → q ≡ Err fault
-      → ItemsMade s t items q → s.spare ≤ t.spare → Gives s t items f q
-  given_refused items f q fault e m l =
-      record { game = rw e tt; made = m; more = l }
-
-  -- a refusal, where other forms would have followed
-  pub given_stopped : (gs back all : List Game) (f g : Game) (r q : Result ℕ ValueFault) (fault : ValueFault)
-      → r ≡ Err fault → q ≡ Err fault → Gives s t (map plain_item gs) f r → all ≡ gs ++ back
-      → Gives s t (map plain_item all) g q
-  given_stopped gs back all f g r q fault e d m is =
-      given_refused (map plain_item all) g q fault d (forms_stopped s t gs back all r q fault e d m.made is) m.more
-
-  -- one call, and then another
-  pub given_after : (u : State Meant (WorkRest R)) (gs hs all : List Game) (f g : Game) (r : Result ℕ ValueFault) (h : ℕ)
-      (q : Result ℕ ValueFault) → r ≡ Ok h → Gives s t (map plain_item gs) f r → Gives t u (map plain_item hs) g q
-      → all ≡ gs ++ hs → Gives s u (map plain_item all) g q
-  given_after u gs hs all f g r h q e m n is =
-      let a = m.more in
-      let b = n.more in
-      record { game = n.game; made = forms_after s t u gs hs all r h q e m.made n.made is; more = omega arith }
+-- the items of forms that are those of two lists
+pub plain_split : (gs hs : List Game) {all : List Game} → all ≡ gs ++ hs → map plain_item all ≡ map plain_item gs ++ map plain_item hs
+plain_split gs hs is = ap (map plain_item) is ∙ map-append plain_item gs hs
 
 -- the canonical form of the game that is made
 pub mirrored_is : (mirrored : Bool) (ls rs : List Game) → mirrored ≡ true → node rs ls ≡ mirrored_if mirrored ls rs

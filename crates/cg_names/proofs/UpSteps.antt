@@ -2,6 +2,7 @@
 use Rattle.std.proofs.Common.{◌≡◌, refl, ap, sym, ◌∙◌, subst, ℕ, zero, suc, ◌+◌, ◌-◌, ◌%◌, ◌<◌, ◌≤◌, arith, List, [], ◌∷◌, ◌++◌}
 use Rattle.std.proofs.Common.{append_assoc, append-nil, map, Bool, true, false, not, ◌&&◌, nat_eq, inl, inr, Result, Ok, Err}
 use Rattle.std.proofs.lemmas.Bool.Decides.{nat_tests}
+use Rattle.std.specs.Result.{IsErrAnd}
 use Rattle.cg_dyadic.proofs.Truth.{not_not}
 use Rattle.cg_dyadic.proofs.Truth.{true_or_false}
 use Rattle.cg_form.specs.Game.{Game}
@@ -14,7 +15,8 @@ use Rattle.cg_canon.specs.declared.rest.WorkRest.{WorkRest}
 use Rattle.cg_canon.specs.Made.{Gives}
 use Rattle.cg_names.specs.Lists.{plain_item}
 use Rattle.cg_names.specs.Named.{mirrored_if, nimber_form, nimbers_below, star_form, ups_chain, ups_form, ups_last, ups_of, zero_form}
-use Rattle.cg_names.proofs.Steps.{given_after, given_game, given_stopped}
+use Rattle.cg_canon.proofs.MadeCalls.{given_handed, given_last}
+use Rattle.cg_names.proofs.Steps.{plain_split}
 
 -- ---- which games of the chain have a star
 
@@ -123,67 +125,61 @@ module _ {R : Type 0} (w v : State Meant (WorkRest R)) (down : Bool) (count : �
       let (back, front) = ups_chain-front down count 0 in
       (back, ap (ups_chain down false) (let e : count ≡ 0 + count = omega arith in e) ∙ front)
 
-  pub ups_first_refused : (r q : Result ℕ ValueFault) (fault : ValueFault) → r ≡ Err fault → q ≡ Err fault
-      → Gives w v (plain_item zero_form ∷ []) zero_form r
-      → Gives w v (map plain_item (ups_chain down false count)) (ups_form down count) q
-  ups_first_refused r q fault e f m =
+  pub ups_first_refused : {q : Result ℕ ValueFault} {x : ValueFault} → Gives w v (plain_item zero_form ∷ []) zero_form (Err x)
+      → IsErrAnd q (λ e. e ≡ x) → Gives w v (map plain_item (ups_chain down false count)) (ups_form down count) q
+  ups_first_refused m a =
       let (back, front) = begins in
-      given_stopped w v (zero_form ∷ []) (star_form ∷ back) (ups_chain down false count) zero_form (ups_form down count) r q
-      fault e f m front
+      given_handed (map plain_item (star_form ∷ back)) m a (ap (map plain_item) front)
 
-  module _ (u : State Meant (WorkRest R)) (r : Result ℕ ValueFault) (z : ℕ) (ok : r ≡ Ok z)
-      (m : Gives w v (plain_item zero_form ∷ []) zero_form r) (q : Result ℕ ValueFault)
-      (n : Gives v u (plain_item star_form ∷ []) star_form q) where
-    begun : Gives w u (map plain_item (zero_form ∷ (star_form ∷ []))) star_form q
-    begun = given_after w v u (zero_form ∷ []) (star_form ∷ []) (zero_form ∷ (star_form ∷ [])) zero_form star_form r z q ok m n
-        refl
+  module _ (u : State Meant (WorkRest R)) (z : ℕ) (m : Gives w v (plain_item zero_form ∷ []) zero_form (Ok z)) where
+    begun : {q : Result ℕ ValueFault} → Gives v u (plain_item star_form ∷ []) star_form q
+        → Gives w u (plain_item zero_form ∷ (plain_item star_form ∷ [])) star_form q
+    begun n = given_last m n refl
 
-    pub ups_star_refused : (o : Result ℕ ValueFault) (fault : ValueFault) → q ≡ Err fault → o ≡ Err fault
-        → Gives w u (map plain_item (ups_chain down false count)) (ups_form down count) o
-    ups_star_refused o fault e f =
+    pub ups_star_refused : {q : Result ℕ ValueFault} {x : ValueFault} → Gives v u (plain_item star_form ∷ []) star_form (Err x)
+        → IsErrAnd q (λ e. e ≡ x) → Gives w u (map plain_item (ups_chain down false count)) (ups_form down count) q
+    ups_star_refused n a =
         let (back, front) = begins in
-        given_stopped w u (zero_form ∷ (star_form ∷ [])) back (ups_chain down false count) star_form (ups_form down count) q o
-        fault e f begun front
+        given_handed (map plain_item back) (begun n) a (ap (map plain_item) front)
 
-    pub ups_start : (last : ℕ) (starred : Bool) → q ≡ Ok last → starred ≡ odd count → UpsMade w u down count z last starred 0
+    pub ups_start : (last : ℕ) (starred : Bool) → Gives v u (plain_item star_form ∷ []) star_form (Ok last) → starred ≡ odd count
+        → UpsMade w u down count z last starred 0
     unfolding ups_chain
-    ups_start last starred o p = record {
-      zero_stands = stands_later v u n.made.keeps.known z zero_form
-          (given_game w v (plain_item zero_form ∷ []) zero_form r z ok m);
-      given =
-          rw (← o) begun;
+    ups_start last starred n p = record {
+      zero_stands = stands_later v u n.made.keeps.known z zero_form m.game;
+      given = begun n;
       parity = p ∙ ap odd (let e : count ≡ count - 0 = omega arith in e);
     }
 
 -- one game more
 module _ {R : Type 0} (w v u : State Meant (WorkRest R)) (down : Bool) (count z last : ℕ) (starred : Bool) (level : ℕ)
-    (i : UpsMade w v down count z last starred level) (r : Result ℕ ValueFault)
-    (m : Gives v u (plain_item (ups_of down (not starred) (suc level)) ∷ []) (ups_of down (not starred) (suc level)) r)
-    (within : level < count) where
-  one_more : Gives w u (map plain_item (ups_chain down (not starred) (suc level))) (ups_of down (not starred) (suc level)) r
-  one_more =
-      let next : Game = ups_of down (not starred) (suc level) in
-      given_after w v u (ups_chain down starred level) (next ∷ []) (ups_chain down (not starred) (suc level))
-      (ups_last down starred level) next (Ok last) last r refl i.given m
-      (ups_chain-next down (not starred) level ∙ ap (λ b. ups_chain down b level ++ (next ∷ [])) (not_not starred))
+    (i : UpsMade w v down count z last starred level) (within : level < count) where
+  abbrev next_form : Game
+  next_form = ups_of down (not starred) (suc level)
 
-  pub ups_next : (next after : ℕ) → r ≡ Ok next → after ≡ suc level → UpsMade w u down count z next (not starred) after
-  ups_next next after o e =
+  one_more : {r : Result ℕ ValueFault} → Gives v u (plain_item next_form ∷ []) next_form r
+      → Gives w u (map plain_item (ups_chain down (not starred) (suc level))) next_form r
+  one_more m =
+      given_last i.given m (plain_split _ _ (ups_chain-next down (not starred) level
+      ∙ ap (λ b. ups_chain down b level ++ (next_form ∷ [])) (not_not starred)))
+
+  pub ups_next : (next after : ℕ) → Gives v u (plain_item next_form ∷ []) next_form (Ok next) → after ≡ suc level
+      → UpsMade w u down count z next (not starred) after
+  ups_next next after m e =
       rw e (record {
         zero_stands = stands_later v u m.made.keeps.known z zero_form i.zero_stands;
-        given = rw (← o) one_more;
+        given = one_more m;
         parity = next_odd count level starred i.parity within;
       })
 
-  pub ups_refused : (q : Result ℕ ValueFault) (fault : ValueFault) → r ≡ Err fault → q ≡ Err fault
-      → Gives w u (map plain_item (ups_chain down false count)) (ups_form down count) q
-  ups_refused q fault e f =
+  pub ups_refused : {q : Result ℕ ValueFault} {x : ValueFault} → Gives v u (plain_item next_form ∷ []) next_form (Err x)
+      → IsErrAnd q (λ e. e ≡ x) → Gives w u (map plain_item (ups_chain down false count)) (ups_form down count) q
+  ups_refused m a =
       let d : ℕ = count - suc level in
       let (back, front) = ups_chain-front down d (suc level) in
-      given_stopped w u (ups_chain down (not starred) (suc level)) back (ups_chain down false count)
-      (ups_of down (not starred) (suc level)) (ups_form down count) r q fault e f one_more
-      (ap (ups_chain down false) (let e : count ≡ suc level + d = omega arith in e) ∙ front
-      ∙ ap (λ b. ups_chain down b (suc level) ++ back) (sym (next_odd count level starred i.parity within)))
+      given_handed (map plain_item back) (one_more m) a
+      (plain_split _ back (ap (ups_chain down false) (let e : count ≡ suc level + d = omega arith in e) ∙ front
+      ∙ ap (λ b. ups_chain down b (suc level) ++ back) (sym (next_odd count level starred i.parity within))))
 
 -- the end
 pub ups_done : {R : Type 0} (w v : State Meant (WorkRest R)) (down : Bool) (count z last : ℕ) (starred : Bool) (level : ℕ)

@@ -15,34 +15,34 @@ use crate::look_star::{StarFound, are_same, one_star, star_on};
 use crate::memo::Memo;
 use crate::named_form::NamedForm;
 use crate::shape::{number_at, only};
-use cg_canon::{Arena, Read};
+use cg_canon::{Arena, Game, Read};
 use cg_dyadic::Dyadic;
 use std::alloc::AllocError;
 
-/// The named form of the game at the index, which has these options. It is found once, and from then on is in the
+/// The named form of the game, which has these options. It is found once, and from then on is in the
 /// memo. The only error is want of memory.
 #[cycle(look)]
 pub(crate) fn named_form(
     arena: &Arena,
     memo: &mut Memo,
-    index: u32,
-    lefts: &[u32],
-    rights: &[u32],
+    game: Game,
+    lefts: &[Game],
+    rights: &[Game],
 ) -> Result<Option<NamedForm>, AllocError>
     requires apart { AreApart arena.now }
     requires lefts { AreIndexes arena.now lefts.now }
     requires rights { AreIndexes arena.now rights.now }
-    requires options { game_of arena.now index ≡ node (games_of arena.now lefts.now) (games_of arena.now rights.now) }
+    requires options { game_of arena.now game ≡ node (games_of arena.now lefts.now) (games_of arena.now rights.now) }
     requires memo { Recalls arena.now memo.old }
-    ensures named_form { IfOk result (λ s. s ≡ named_form_of (game_of arena.now index)) }
+    ensures named_form { IfOk result (λ s. s ≡ named_form_of (game_of arena.now game)) }
     ensures few { IfOk result (λ s. arrow_count s ≤ kept memo.new) }
     ensures memo { OnOk result (Recalls arena.now memo.new) }
 {
-    match memo.recall(index) {
+    match memo.recall(game) {
         Some(named_form) => Ok(named_form),
         None => {
             let named_form = named_by_shape(arena, memo, lefts, rights)?;
-            memo.remember(index, &named_form)?;
+            memo.remember(game, &named_form)?;
             Ok(named_form)
         }
     }
@@ -53,8 +53,8 @@ pub(crate) fn named_form(
 fn named_by_shape(
     arena: &Arena,
     memo: &mut Memo,
-    lefts: &[u32],
-    rights: &[u32],
+    lefts: &[Game],
+    rights: &[Game],
 ) -> Result<Option<NamedForm>, AllocError>
     requires apart { AreApart arena.now }
     requires lefts { AreIndexes arena.now lefts.now }
@@ -76,8 +76,8 @@ fn named_by_shape(
 fn star(
     arena: &Arena,
     memo: &mut Memo,
-    lefts: &[u32],
-    rights: &[u32],
+    lefts: &[Game],
+    rights: &[Game],
 ) -> Result<Option<StarFound>, AllocError>
     requires apart { AreApart arena.now }
     requires lefts { AreIndexes arena.now lefts.now }
@@ -101,7 +101,7 @@ fn star(
 /// The number x where the games are x, x + *, x + *2 and so on. The named form of the last one tells what the others
 /// must be.
 #[cycle(look)]
-fn stars(arena: &Arena, memo: &mut Memo, options: &[u32]) -> Result<Option<Dyadic>, AllocError>
+fn stars(arena: &Arena, memo: &mut Memo, options: &[Game]) -> Result<Option<Dyadic>, AllocError>
     requires apart { AreApart arena.now }
     requires options { AreIndexes arena.now options.now }
     requires memo { Recalls arena.now memo.old }
@@ -113,7 +113,7 @@ fn stars(arena: &Arena, memo: &mut Memo, options: &[u32]) -> Result<Option<Dyadi
     };
     match arena.read(*last) {
         Read::Number(x) => Ok(one_star(x, others.len())),
-        Read::Game(lefts, rights) => {
+        Read::Options(lefts, rights) => {
             let named_form = named_form(arena, memo, *last, lefts, rights)?;
             Ok(star_on(arena, lefts, &named_form, others))
         }
@@ -125,8 +125,8 @@ fn stars(arena: &Arena, memo: &mut Memo, options: &[u32]) -> Result<Option<Dyadi
 fn named_by_ends(
     arena: &Arena,
     memo: &mut Memo,
-    lefts: &[u32],
-    rights: &[u32],
+    lefts: &[Game],
+    rights: &[Game],
 ) -> Result<Option<NamedForm>, AllocError>
     requires apart { AreApart arena.now }
     requires lefts { AreIndexes arena.now lefts.now }
@@ -155,8 +155,8 @@ fn named_by_ends(
 fn named_of_two(
     arena: &Arena,
     memo: &mut Memo,
-    first: u32,
-    last: u32,
+    first: Game,
+    last: Game,
 ) -> Result<Option<NamedForm>, AllocError>
     requires apart { AreApart arena.now }
     requires first { IsIndex arena.now first }
@@ -187,10 +187,10 @@ fn steep(
     memo: &mut Memo,
     down: bool,
     x: Dyadic,
-    last: u32,
+    last: Game,
 ) -> Result<Option<NamedForm>, AllocError>
     requires apart { AreApart arena.now }
-    requires index { IsIndex arena.now last }
+    requires game { IsIndex arena.now last }
     requires other { (y : Number) → ¬ (game_of arena.now last ≡ number_form y) }
     requires memo { Recalls arena.now memo.old }
     ensures named_form { IfOk result (λ s. s ≡ named_form_of
@@ -200,7 +200,7 @@ fn steep(
 {
     match arena.read(last) {
         Read::Number(_) => Ok(None),
-        Read::Game(lefts, rights) => match tiny(arena, down, x, lefts, rights) {
+        Read::Options(lefts, rights) => match tiny(arena, down, x, lefts, rights) {
             Some(size) => Ok(Some(NamedForm::Tiny(down, size))),
             None => {
                 let named_form = named_form(arena, memo, last, lefts, rights)?;

@@ -1,7 +1,8 @@
 //! Numbers and ups or downs by the shape of their options.
 ghost use Rattle.std.specs.Prelude.{◌≡◌, ◌+◌, ◌<◌, ◌≤◌, ◌^◌, Bool, IfSome, None, Some, true, false, [], ◌∷◌};
 ghost use Rattle.cg_dyadic.specs.Number.{Number};
-ghost use Rattle.cg_form.specs.Game.{Game, number as number_form};
+ghost use Rattle.cg_form.specs.Game as tree;
+ghost use Rattle.cg_form.specs.Game.{number as number_form};
 ghost use Rattle.cg_arena.specs.Arena.{AreIndexes, IsIndex, game_of, games_of};
 ghost use Rattle.cg_nodes.specs.Games.{IsNode};
 ghost use Rattle.cg_names.specs.Memos.{arrow_count};
@@ -12,7 +13,7 @@ ghost use Rattle.cg_names.specs.Shapes.{named_form_of};
 use crate::named_form::NamedForm;
 use crate::numbers::is_same;
 use crate::shape::{numbers_at, numbers_of};
-use cg_canon::{Arena, Read};
+use cg_canon::{Arena, Game, Read};
 use cg_dyadic::Dyadic;
 
 /// A number and so many ups or downs, and `*` where it is starred.
@@ -27,7 +28,7 @@ struct ArrowsFound {
 /// down.
 pub(crate) fn one_more(down: bool, x: Dyadic, named_form: &Option<NamedForm>) -> Option<NamedForm>
     requires { arrow_count named_form.now < 2 ^ 63 }
-    ensures more { (g : Game) → IsNode g → named_form.now ≡ named_form_of g → IsMore down x g result }
+    ensures more { (g : tree.Game) → IsNode g → named_form.now ≡ named_form_of g → IsMore down x g result }
     ensures few { arrow_count result ≤ arrow_count named_form.now + 1 }
 {
     match arrows_in(down, named_form) {
@@ -39,7 +40,7 @@ pub(crate) fn one_more(down: bool, x: Dyadic, named_form: &Option<NamedForm>) ->
 /// One up more than these, or one down.
 fn one_more_than(down: bool, x: Dyadic, found: &ArrowsFound) -> Option<NamedForm>
     requires { found.now.count < 2 ^ 63 }
-    ensures more { (g : Game) → IsNode g → IsArrows down g (Some found.now) → IsMore down x g result }
+    ensures more { (g : tree.Game) → IsNode g → IsArrows down g (Some found.now) → IsMore down x g result }
     ensures few { arrow_count result ≤ found.now.count + 1 }
 {
     if is_same(x, found.base) {
@@ -56,7 +57,7 @@ fn one_more_than(down: bool, x: Dyadic, found: &ArrowsFound) -> Option<NamedForm
 
 /// The ups, or the downs, that a game with this named form is, if it has one; `x + *` is none of them, starred.
 fn arrows_in(down: bool, named_form: &Option<NamedForm>) -> Option<ArrowsFound>
-    ensures arrows { (g : Game) → IsNode g → named_form.now ≡ named_form_of g → IsArrows down g result }
+    ensures arrows { (g : tree.Game) → IsNode g → named_form.now ≡ named_form_of g → IsArrows down g result }
     ensures few { IfSome result (λ a. a.count ≤ arrow_count named_form.now) }
 {
     match named_form {
@@ -67,7 +68,7 @@ fn arrows_in(down: bool, named_form: &Option<NamedForm>) -> Option<ArrowsFound>
 
 /// The ups, or the downs, that a game with this named form is.
 fn arrows_of(down: bool, named_form: &NamedForm) -> Option<ArrowsFound>
-    ensures arrows { (g : Game) → IsNode g → Some named_form.now ≡ named_form_of g → IsArrows down g result }
+    ensures arrows { (g : tree.Game) → IsNode g → Some named_form.now ≡ named_form_of g → IsArrows down g result }
     ensures few { IfSome result (λ a. a.count ≤ arrow_count (Some named_form.now)) }
 {
     match named_form {
@@ -95,7 +96,7 @@ fn arrows_of(down: bool, named_form: &NamedForm) -> Option<ArrowsFound>
 
 /// The `x + *` that `x + *n` is where n is 1.
 fn level_at(x: Dyadic, count: u64) -> Option<ArrowsFound>
-    ensures arrows { (down : Bool) (g : Game) → IsNode g → Some (NamedForm.Star x count) ≡ named_form_of g → IsArrows down g result }
+    ensures arrows { (down : Bool) (g : tree.Game) → IsNode g → Some (NamedForm.Star x count) ≡ named_form_of g → IsArrows down g result }
     ensures few { IfSome result (λ a. a.count ≡ 0) }
 {
     if count == 1 {
@@ -111,10 +112,15 @@ fn level_at(x: Dyadic, count: u64) -> Option<ArrowsFound>
 
 /// The named form of `{own|last}` where own has another number of options than one, or of its mirror image where it is
 /// `down`: of these only `{x,x + *|x}` has one, which is `x + ^*`.
-pub(crate) fn starred_arrow(arena: &Arena, down: bool, own: &[u32], last: u32) -> Option<NamedForm>
+pub(crate) fn starred_arrow(
+    arena: &Arena,
+    down: bool,
+    own: &[Game],
+    last: Game,
+) -> Option<NamedForm>
     requires own { AreIndexes arena.now own.now }
     requires last { IsIndex arena.now last }
-    requires more { (a : Game) → ¬ (games_of arena.now own.now ≡ a ∷ []) }
+    requires more { (a : tree.Game) → ¬ (games_of arena.now own.now ≡ a ∷ []) }
     requires no_star { IsStar (mirrored_if down (games_of arena.now own.now) (game_of arena.now last ∷ [])) None }
     ensures named_form { result ≡ named_form_of
         (mirrored_if down (games_of arena.now own.now) (game_of arena.now last ∷ [])) }
@@ -132,7 +138,7 @@ pub(crate) fn starred_arrow(arena: &Arena, down: bool, own: &[u32], last: u32) -
 }
 
 /// The number x where the options are x and x + *, and the last game is x.
-fn up_star(arena: &Arena, own: &[u32], last: u32) -> Option<Dyadic>
+fn up_star(arena: &Arena, own: &[Game], last: Game) -> Option<Dyadic>
     requires own { AreIndexes arena.now own.now }
     requires last { IsIndex arena.now last }
     ensures { IsUpStar (games_of arena.now own.now) (game_of arena.now last) result }
@@ -153,14 +159,14 @@ fn up_star(arena: &Arena, own: &[u32], last: u32) -> Option<Dyadic>
 }
 
 /// Whether the game is `{x|x}`.
-fn is_pair(arena: &Arena, index: u32, x: Dyadic) -> bool
-    requires { IsIndex arena.now index }
-    ensures same { result ≡ true → game_of arena.now index ≡ pair_form x x }
-    ensures other { result ≡ false → ¬ (game_of arena.now index ≡ pair_form x x) }
+fn is_pair(arena: &Arena, game: Game, x: Dyadic) -> bool
+    requires { IsIndex arena.now game }
+    ensures same { result ≡ true → game_of arena.now game ≡ pair_form x x }
+    ensures other { result ≡ false → ¬ (game_of arena.now game ≡ pair_form x x) }
 {
-    match arena.read(index) {
+    match arena.read(game) {
         Read::Number(_) => false,
-        Read::Game(lefts, rights) => match numbers_of(arena, lefts, rights) {
+        Read::Options(lefts, rights) => match numbers_of(arena, lefts, rights) {
             None => false,
             Some(pair) => is_same(pair.left, x) && is_same(pair.right, x),
         },

@@ -12,7 +12,7 @@ ghost use Rattle.cg_names.specs.NamedForms.{IsPositive};
 use crate::named_form::NamedForm;
 use crate::numbers::{is_positive, is_same, opposite};
 use crate::shape::{Numbers, numbers_of};
-use cg_canon::{Arena, zero};
+use cg_canon::{Arena, Game, zero};
 use cg_dyadic::Dyadic;
 
 /// The named form of `{x|y}`, which has none with a nimber.
@@ -32,8 +32,8 @@ pub(crate) fn tiny(
     arena: &Arena,
     miny: bool,
     x: Dyadic,
-    lefts: &[u32],
-    rights: &[u32],
+    lefts: &[Game],
+    rights: &[Game],
 ) -> Option<Dyadic>
     requires lefts { AreIndexes arena.now lefts.now }
     requires rights { AreIndexes arena.now rights.now }

@@ -1,13 +1,14 @@
 //! Numbers and nimbers by the shape of their options.
 ghost use Rattle.std.specs.Prelude.{◌≡◌, List, true, false, length, [], ◌∷◌, ◌++◌};
-ghost use Rattle.cg_form.specs.Game.{Game, node, number as number_form};
+ghost use Rattle.cg_form.specs.Game as tree;
+ghost use Rattle.cg_form.specs.Game.{node, number as number_form};
 ghost use Rattle.cg_arena.specs.Arena.{AreIndexes, games_of};
 ghost use Rattle.cg_canon.specs.Walking.{AreApart};
 ghost use Rattle.cg_names.specs.Readings.{AreStars, IsStarBase};
 ghost use Rattle.cg_names.specs.Shapes.{named_form_of};
 
 use crate::named_form::NamedForm;
-use cg_canon::Arena;
+use cg_canon::{Arena, Game};
 use cg_dyadic::Dyadic;
 
 /// A number and a nimber.
@@ -17,8 +18,8 @@ pub(crate) struct StarFound {
     pub(crate) count: u64,
 }
 
-/// Whether the two lists have the same games, which they have exactly where they have the same indexes.
-pub(crate) fn are_same(arena: &Arena, some: &[u32], others: &[u32]) -> bool
+/// Whether the two lists have the same games, which they have exactly where the same places stand in them.
+pub(crate) fn are_same(arena: &Arena, some: &[Game], others: &[Game]) -> bool
     requires apart { AreApart arena.now }
     requires some { AreIndexes arena.now some.now }
     requires others { AreIndexes arena.now others.now }
@@ -32,7 +33,7 @@ pub(crate) fn are_same(arena: &Arena, some: &[u32], others: &[u32]) -> bool
 
 /// The number x where the games are x, x + *, x + *2 and so on, of which the last one, at this place, is a number.
 pub(crate) fn one_star(x: Dyadic, place: usize) -> Option<Dyadic>
-    ensures { (gs : List Game) → length gs ≡ place → AreStars (gs ++ (number_form x ∷ [])) result }
+    ensures { (gs : List tree.Game) → length gs ≡ place → AreStars (gs ++ (number_form x ∷ [])) result }
 {
     if place == 0 { Some(x) } else { None }
 }
@@ -51,14 +52,14 @@ fn star_base(named_form: &Option<NamedForm>) -> Option<Dyadic>
 /// Left options.
 pub(crate) fn star_on(
     arena: &Arena,
-    lefts: &[u32],
+    lefts: &[Game],
     named_form: &Option<NamedForm>,
-    others: &[u32],
+    others: &[Game],
 ) -> Option<Dyadic>
     requires apart { AreApart arena.now }
     requires lefts { AreIndexes arena.now lefts.now }
     requires others { AreIndexes arena.now others.now }
-    ensures { (rs : List Game) → named_form.now ≡ named_form_of (node (games_of arena.now lefts.now) rs)
+    ensures { (rs : List tree.Game) → named_form.now ≡ named_form_of (node (games_of arena.now lefts.now) rs)
         → AreStars (games_of arena.now others.now ++ (node (games_of arena.now lefts.now) rs ∷ [])) result }
 {
     match star_base(named_form) {

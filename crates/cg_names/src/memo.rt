@@ -3,13 +3,14 @@ ghost use Rattle.std.specs.Prelude.{◌≡◌, ℕ, ◌==◌, ◌+◌, ◌<◌, 
 ghost use Rattle.cg_names.specs.Memos.{kept, recalled};
 
 use crate::named_form::NamedForm;
+use cg_canon::Game;
 use std::alloc::{AllocError, Global};
 use std::collections::HashMap;
 
-/// The named forms of games, by the indexes of the games, or that a game has none.
+/// The named forms of games, by the places of the games, or that a game has none.
 #[derive(Drop)]
 pub(crate) struct Memo {
-    named_forms: HashMap<u32, Option<NamedForm>>,
+    named_forms: HashMap<usize, Option<NamedForm>>,
 }
 
 impl Memo {
@@ -22,20 +23,20 @@ impl Memo {
         }
     }
 
-    /// What was found for the index, if anything was.
-    pub fn recall(&self, a: u32) -> Option<Option<NamedForm>>
+    /// What was found for the game, if anything was.
+    pub fn recall(&self, a: Game) -> Option<Option<NamedForm>>
         ensures { result ≡ recalled self.now a }
     {
-        self.named_forms.get(&a).copied()
+        self.named_forms.get(&a.place()).copied()
     }
 
-    /// Keeps what was found for the index.
-    pub fn remember(&mut self, a: u32, named_form: &Option<NamedForm>) -> Result<(), AllocError>
+    /// Keeps what was found for the game.
+    pub fn remember(&mut self, a: Game, named_form: &Option<NamedForm>) -> Result<(), AllocError>
         ensures ok { IfOk result (λ _. (b : ℕ) → recalled self.new b
             ≡ (if a == b then Some named_form.now else recalled self.old b)) }
         ensures count { OnOk result (kept self.new ≡ kept self.old + (if is_some (recalled self.old a) then 0 else 1)) }
     {
-        self.named_forms.insert(a, *named_form)?;
+        self.named_forms.insert(a.place(), *named_form)?;
         Ok(())
     }
 

@@ -19,7 +19,7 @@ use crate::look::named_form;
 use crate::memo::Memo;
 use crate::named_form::NamedForm;
 use crate::numbers::is_same;
-use cg_canon::{Arena, Read, Work, zero};
+use cg_canon::{Arena, Game, Read, Work, zero};
 use cg_cells::CellStore;
 use cg_dyadic::Dyadic;
 use cg_nodes::{BoardForms, GameFacts, Handle};
@@ -68,34 +68,34 @@ pub fn named<B: BoardForms, S: CellStore<GameFacts<B>>>(
         → ReadsAs (game_at (work_state S.state work.old) handle) (string_bytes text)) }
     ensures spends { Spends 0 (work_state S.state work.old) (work_state S.state work.new) }
 {
-    let index = work.index(alloc, handle)?;
-    work.distinct_at();
+    let game = work.game(alloc, handle)?;
+    work.distinct();
     let mut memo = Memo::new(alloc);
     let mut text = String::new(alloc);
-    push_name(alloc, work.arena(), &mut memo, &mut text, index)?;
+    push_name(alloc, work.arena(), &mut memo, &mut text, game)?;
     Ok(text)
 }
 
-/// Puts the name of the game at the index at the end.
+/// Puts the name of the game at the end.
 #[cycle(push_name)]
 fn push_name(
     alloc: Global,
     arena: &Arena,
     memo: &mut Memo,
     text: &mut String,
-    index: u32,
+    game: Game,
 ) -> Result<(), AllocError>
     requires apart { AreApart arena.now }
-    requires index { IsIndex arena.now index }
+    requires game { IsIndex arena.now game }
     requires memo { Recalls arena.now memo.old }
-    ensures text { OnOk result (string_bytes text.new ≡ string_bytes text.old ++ name_of (game_of arena.now index)) }
-    ensures in_range { OnOk result (IsNameInRange (game_of arena.now index)) }
+    ensures text { OnOk result (string_bytes text.new ≡ string_bytes text.old ++ name_of (game_of arena.now game)) }
+    ensures in_range { OnOk result (IsNameInRange (game_of arena.now game)) }
     ensures memo { OnOk result (Recalls arena.now memo.new) }
-    ensures canonical { Canonical (game_of arena.now index) }
+    ensures canonical { Canonical (game_of arena.now game) }
 {
-    match arena.read(index) {
+    match arena.read(game) {
         Read::Number(number) => push_number(alloc, text, number),
-        Read::Game(lefts, rights) => match named_form(arena, memo, index, lefts, rights)? {
+        Read::Options(lefts, rights) => match named_form(arena, memo, game, lefts, rights)? {
             Some(named_form) => push_named(alloc, text, &named_form),
             None => push_braces(alloc, arena, memo, text, lefts, rights),
         },
@@ -109,8 +109,8 @@ fn push_braces(
     arena: &Arena,
     memo: &mut Memo,
     text: &mut String,
-    lefts: &[u32],
-    rights: &[u32],
+    lefts: &[Game],
+    rights: &[Game],
 ) -> Result<(), AllocError>
     requires apart { AreApart arena.now }
     requires lefts { AreIndexes arena.now lefts.now }
@@ -233,7 +233,7 @@ fn push_names(
     arena: &Arena,
     memo: &mut Memo,
     text: &mut String,
-    games: &[u32],
+    games: &[Game],
 ) -> Result<(), AllocError>
     requires apart { AreApart arena.now }
     requires games { AreIndexes arena.now games.now }
@@ -259,7 +259,7 @@ fn push_further(
     arena: &Arena,
     memo: &mut Memo,
     text: &mut String,
-    games: &[u32],
+    games: &[Game],
 ) -> Result<(), AllocError>
     requires apart { AreApart arena.now }
     requires games { AreIndexes arena.now games.now }

@@ -6,11 +6,11 @@ ghost use Rattle.cg_arena.specs.Arena.{AreIndexes, IsIndex, game_of, games_of};
 ghost use Rattle.cg_names.specs.Named.{pair_form};
 ghost use Rattle.cg_names.specs.Readings.{AreNumbers, IsOnly};
 
-use cg_canon::{Arena, Read};
+use cg_canon::{Arena, Game, Read};
 use cg_dyadic::Dyadic;
 
 /// The option of a list that has one.
-pub(crate) fn only(arena: &Arena, list: &[u32]) -> Option<u32>
+pub(crate) fn only(arena: &Arena, list: &[Game]) -> Option<Game>
     requires { AreIndexes arena.now list.now }
     ensures { IsOnly arena.now result (games_of arena.now list.now) }
 {
@@ -22,15 +22,15 @@ pub(crate) fn only(arena: &Arena, list: &[u32]) -> Option<u32>
     }
 }
 
-/// The number at the index, if it is that of one.
-pub(crate) fn number_at(arena: &Arena, index: u32) -> Option<Dyadic>
-    requires { IsIndex arena.now index }
-    ensures { MatchOption result ((x : Number) → ¬ (game_of arena.now index ≡ number_form x))
-        (λ x. game_of arena.now index ≡ number_form x) }
+/// The number that the game is, if it is one.
+pub(crate) fn number_at(arena: &Arena, game: Game) -> Option<Dyadic>
+    requires { IsIndex arena.now game }
+    ensures { MatchOption result ((x : Number) → ¬ (game_of arena.now game ≡ number_form x))
+        (λ x. game_of arena.now game ≡ number_form x) }
 {
-    match arena.read(index) {
+    match arena.read(game) {
         Read::Number(x) => Some(x),
-        Read::Game(_, _) => None,
+        Read::Options(_, _) => None,
     }
 }
 
@@ -42,7 +42,7 @@ pub(crate) struct Numbers {
 }
 
 /// The numbers of a game `{x|y}`.
-pub(crate) fn numbers_of(arena: &Arena, lefts: &[u32], rights: &[u32]) -> Option<Numbers>
+pub(crate) fn numbers_of(arena: &Arena, lefts: &[Game], rights: &[Game]) -> Option<Numbers>
     requires lefts { AreIndexes arena.now lefts.now }
     requires rights { AreIndexes arena.now rights.now }
     ensures { MatchOption result
@@ -58,8 +58,8 @@ pub(crate) fn numbers_of(arena: &Arena, lefts: &[u32], rights: &[u32]) -> Option
     }
 }
 
-/// The numbers at the two indexes.
-pub(crate) fn numbers_at(arena: &Arena, first: u32, second: u32) -> Option<Numbers>
+/// The numbers that the two games are.
+pub(crate) fn numbers_at(arena: &Arena, first: Game, second: Game) -> Option<Numbers>
     requires first { IsIndex arena.now first }
     requires second { IsIndex arena.now second }
     ensures { AreNumbers (game_of arena.now first) (game_of arena.now second) result }

@@ -48,51 +48,51 @@ module _ (gs : List Game) (terms : Terms) (games : List Game × List Game) (row 
   abbrev h : Game
   h = game_of games.1 column
 
-  pub first_at : IsAt gs f.index g
+  pub first_at : IsAt gs f.game g
   first_at = walks.at gs terms.firsts games.0 placed.firsts row f placed.within_rows isf
 
-  pub second_at : IsAt gs k.index h
+  pub second_at : IsAt gs k.game h
   second_at = walks.at gs terms.seconds games.1 placed.seconds column k placed.within_columns isk
 
   -- ---- the sum of 0 and a game
 
-  pub zero_first : f.is_zero ≡ true → IsAt gs k.index (can (sum g h))
+  pub zero_first : f.is_zero ≡ true → IsAt gs k.game (can (sum g h))
   zero_first e =
-      let P : Game → Type 0 = λ z. IsAt gs k.index z in
+      let P : Game → Type 0 = λ z. IsAt gs k.game z in
       subst P (sym (ap (λ z. can (sum z h)) ((walks.place gs terms.firsts games.0 placed.firsts row f placed.within_rows isf).as_zero e)
       ∙ can-sum_zero h (walks.canonical gs terms.seconds games.1 placed.seconds column k placed.within_columns isk))) second_at
 
-  pub zero_second : k.is_zero ≡ true → IsAt gs f.index (can (sum g h))
+  pub zero_second : k.is_zero ≡ true → IsAt gs f.game (can (sum g h))
   zero_second e =
-      let P : Game → Type 0 = λ z. IsAt gs f.index z in
+      let P : Game → Type 0 = λ z. IsAt gs f.game z in
       subst P (sym (can-sum_comm g h
       ∙ ap (λ z. can (sum z g)) ((walks.place gs terms.seconds games.1 placed.seconds column k placed.within_columns isk).as_zero e)
       ∙ can-sum_zero g (walks.canonical gs terms.firsts games.0 placed.firsts row f placed.within_rows isf))) first_at
 
   -- ---- the sum of the games at the two indexes
 
-  pub same_sum : can (sum (game_of gs f.index) (game_of gs k.index)) ≡ can (sum g h)
-  same_sum = ap (λ z. can (sum z (game_of gs k.index))) first_at.is ∙ ap (λ z. can (sum g z)) second_at.is
+  pub same_sum : can (sum (game_of gs f.game) (game_of gs k.game)) ≡ can (sum g h)
+  same_sum = ap (λ z. can (sum z (game_of gs k.game))) first_at.is ∙ ap (λ z. can (sum g z)) second_at.is
 
-  pub sum_found : (o : Option ℕ) → IfSome o (λ i. IsAt gs i (can (sum (game_of gs f.index) (game_of gs k.index))))
+  pub sum_found : (o : Option ℕ) → IfSome o (λ i. IsAt gs i (can (sum (game_of gs f.game) (game_of gs k.game))))
       → IfSome o (λ i. IsAt gs i (can (sum g h)))
   sum_found o a = let P : Game → Type 0 = λ z. IfSome o (λ i. IsAt gs i z) in subst P same_sum a
 
-  pub sum_at_indexes : (i : ℕ) → IsAt gs i (can (sum g h)) → IsAt gs i (can (sum (game_of gs f.index) (game_of gs k.index)))
+  pub sum_at_indexes : (i : ℕ) → IsAt gs i (can (sum g h)) → IsAt gs i (can (sum (game_of gs f.game) (game_of gs k.game)))
   sum_at_indexes i a = at_as gs i _ _ (sym same_sum) a
 
   -- ---- numbers
 
-  pub first_number : f.is_number ≡ true → (x : Number) × (game_of gs f.index ≡ number x)
+  pub first_number : f.is_number ≡ true → (x : Number) × (game_of gs f.game ≡ number x)
   first_number e = walks.number_at_index gs terms.firsts games.0 placed.firsts row f placed.within_rows isf e
 
-  pub second_number : k.is_number ≡ true → (x : Number) × (game_of gs k.index ≡ number x)
+  pub second_number : k.is_number ≡ true → (x : Number) × (game_of gs k.game ≡ number x)
   second_number e = walks.number_at_index gs terms.seconds games.1 placed.seconds column k placed.within_columns isk e
 
-  pub first_is : (x : Number) → game_of gs f.index ≡ number x → g ≡ number x
+  pub first_is : (x : Number) → game_of gs f.game ≡ number x → g ≡ number x
   first_is x e = sym first_at.is ∙ e
 
-  pub second_is : (x : Number) → game_of gs k.index ≡ number x → h ≡ number x
+  pub second_is : (x : Number) → game_of gs k.game ≡ number x → h ≡ number x
   second_is x e = sym second_at.is ∙ e
 
   is_number : (z : Game) (x : Number) → z ≡ number x → IsNumber z

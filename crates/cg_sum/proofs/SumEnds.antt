@@ -77,11 +77,6 @@ gives_handed {q = q} f a r k l =
     let p = err_from_is_err_and q a in
     rw (p.1 ∙ ap Err p.2) (record { game = tt; made = record { charged = tt; refused = r; keeps = k }; more = l })
 
-pub made_handed : {R T U : Type 0} {w v : State Meant (WorkRest R)} {items : List Item} {q : Result U ValueFault} {f : ValueFault}
-    → ItemsMade {T = T} w v items (Err f) → IsErrAnd q (λ e. e ≡ f) → ItemsMade w v items q
-made_handed {q = q} m a =
-    let p = err_from_is_err_and q a in rw (p.1 ∙ ap Err p.2) (record { charged = tt; refused = m.refused; keeps = m.keeps })
-
 -- ---- positions
 
 among_some : (g : Game) (gs : List Game) → Among g gs → 1 ≤ length gs

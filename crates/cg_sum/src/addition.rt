@@ -104,5 +104,5 @@ fn other_sum<B: BoardForms, S: CellStore<GameFacts<B>>>(
         .saturating_mul(terms.seconds.positions.len());
     let mut table = Vec::with_capacity(alloc, pairs.min(ROOM))?;
     add_rows(alloc, work, &terms, &mut table)?;
-    Ok(work.handle_at(table[table.len() - 1]))
+    Ok(work.handle(table[table.len() - 1]))
 }

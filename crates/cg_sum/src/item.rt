@@ -4,7 +4,8 @@ ghost use Rattle.cg_arena.specs.Arena.{IsIndex, game_of};
 ghost use Rattle.cg_canon.specs.Arena.{IsAt};
 ghost use Rattle.cg_canon.specs.Works.{work_state};
 ghost use Rattle.cg_dyadic.specs.Number.{Number};
-ghost use Rattle.cg_form.specs.Game.{Game, number};
+ghost use Rattle.cg_form.specs.Game as tree;
+ghost use Rattle.cg_form.specs.Game.{number};
 ghost use Rattle.cg_form.specs.Sum.{sum};
 ghost use Rattle.cg_nodes.specs.Can.{can};
 ghost use Rattle.cg_nodes.specs.Games.{IsNode};
@@ -12,7 +13,7 @@ ghost use Rattle.cg_sum.specs.Progress.{ArePlaced, IsReady, SumMade, indexes};
 
 use crate::sides::{gather, lefts, rights};
 use crate::terms::Terms;
-use cg_canon::{FirstTerm, Read, ValueFault, Work};
+use cg_canon::{FirstTerm, Game, Read, ValueFault, Work};
 use cg_cells::CellStore;
 use cg_dyadic::Dyadic;
 use cg_nodes::{BoardForms, GameFacts};
@@ -28,21 +29,21 @@ pub(crate) fn sum_item<B: BoardForms, S: CellStore<GameFacts<B>>>(
     terms: &Terms,
     row: usize,
     column: usize,
-    table: &[u32],
-) -> Result<u32, ValueFault>
-    ghost games: { List Game × List Game }
+    table: &[Game],
+) -> Result<Game, ValueFault>
+    ghost games: { List tree.Game × List tree.Game }
     requires ready { IsReady work.old.arena terms.now games row column table.now }
     requires spare { terms.now.start ≤ (work_state S.state work.old).spare }
     ensures { SumMade (work_state S.state work.old) (work_state S.state work.new) work.old.arena work.new.arena
         terms.now.start (game_of games.0 row) (game_of games.1 column) result }
 {
     if let Some(sum) = kept(work, terms, row, column) {
-        return work.item_at(sum, 1);
+        return work.make_again(sum, 1);
     }
     let sum = new_item(alloc, work, terms, row, column, table)?;
     let f = terms.firsts.positions[row];
     let k = terms.seconds.positions[column];
-    work.keep_pair(f.index, k.index, sum);
+    work.keep_pair(f.game, k.game, sum);
     Ok(sum)
 }
 
@@ -52,20 +53,20 @@ fn kept<B: BoardForms, S: CellStore<GameFacts<B>>>(
     terms: &Terms,
     row: usize,
     column: usize,
-) -> Option<u32>
-    ghost games: { List Game × List Game }
+) -> Option<Game>
+    ghost games: { List tree.Game × List tree.Game }
     requires { ArePlaced work.now.arena terms.now games row column }
     ensures { IfSome result (λ i. IsAt work.now.arena i (can (sum (game_of games.0 row) (game_of games.1 column)))) }
 {
     let f = terms.firsts.positions[row];
     let k = terms.seconds.positions[column];
     if f.is_zero {
-        return Some(k.index);
+        return Some(k.game);
     }
     if k.is_zero {
-        return Some(f.index);
+        return Some(f.game);
     }
-    work.kept_sum(f.index, k.index)
+    work.kept_sum(f.game, k.game)
 }
 
 // Makes the item of a sum that isn't kept. The sum of two numbers is a number, and that of two games that are known
@@ -76,9 +77,9 @@ fn new_item<B: BoardForms, S: CellStore<GameFacts<B>>>(
     terms: &Terms,
     row: usize,
     column: usize,
-    table: &[u32],
-) -> Result<u32, ValueFault>
-    ghost games: { List Game × List Game }
+    table: &[Game],
+) -> Result<Game, ValueFault>
+    ghost games: { List tree.Game × List tree.Game }
     requires ready { IsReady work.old.arena terms.now games row column table.now }
     requires spare { terms.now.start ≤ (work_state S.state work.old).spare }
     ensures { SumMade (work_state S.state work.old) (work_state S.state work.new) work.old.arena work.new.arena
@@ -87,27 +88,27 @@ fn new_item<B: BoardForms, S: CellStore<GameFacts<B>>>(
     let f = terms.firsts.positions[row];
     let k = terms.seconds.positions[column];
     if f.is_number && k.is_number {
-        let sum = number_at(work, f.index).add(number_at(work, k.index));
-        return work.number_item_at(sum.ok(), 1);
+        let sum = number_at(work, f.game).add(number_at(work, k.game));
+        return work.make_number(sum.ok(), 1);
     }
-    match work.sum_by_parts_at(f.index, k.index) {
-        Some(sum) => work.item_at(sum, 1),
+    match work.sum_by_parts(f.game, k.game) {
+        Some(sum) => work.make_again(sum, 1),
         None => noted_item(alloc, work, terms, row, column, table),
     }
 }
 
-/// The number at the index.
+/// The number that the game is.
 pub(crate) fn number_at<B: BoardForms, S: CellStore<GameFacts<B>>>(
     work: &Work<B, S>,
-    index: u32,
+    game: Game,
 ) -> Dyadic
-    requires index { IsIndex work.now.arena index }
-    requires number { (x : Number) × (game_of work.now.arena index ≡ number x) }
-    ensures { game_of work.now.arena index ≡ number result }
+    requires game { IsIndex work.now.arena game }
+    requires number { (x : Number) × (game_of work.now.arena game ≡ number x) }
+    ensures { game_of work.now.arena game ≡ number result }
 {
-    match work.read_at(index) {
+    match work.arena().read(game) {
         Read::Number(x) => x,
-        Read::Game(_, _) => unreachable!(),
+        Read::Options(_, _) => unreachable!(),
     }
 }
 
@@ -121,9 +122,9 @@ fn noted_item<B: BoardForms, S: CellStore<GameFacts<B>>>(
     terms: &Terms,
     row: usize,
     column: usize,
-    table: &[u32],
-) -> Result<u32, ValueFault>
-    ghost games: { List Game × List Game }
+    table: &[Game],
+) -> Result<Game, ValueFault>
+    ghost games: { List tree.Game × List tree.Game }
     requires ready { IsReady work.old.arena terms.now games row column table.now }
     requires node { IsNode (game_of games.0 row) ⊎ IsNode (game_of games.1 column) }
     requires spare { terms.now.start ≤ (work_state S.state work.old).spare }
@@ -135,9 +136,9 @@ fn noted_item<B: BoardForms, S: CellStore<GameFacts<B>>>(
     }
     let f = terms.firsts.positions[row];
     let k = terms.seconds.positions[column];
-    let cell = work.pair_cell(f.index, k.index);
+    let cell = work.pair_cell(f.game, k.game);
     if let Some(sum) = work.noted_sum(alloc, cell)? {
-        return work.item_at(sum, 1);
+        return work.make_again(sum, 1);
     }
     let sum = made_item(alloc, work, terms, row, column, table)?;
     work.note_sum(cell, sum);
@@ -152,9 +153,9 @@ fn made_item<B: BoardForms, S: CellStore<GameFacts<B>>>(
     terms: &Terms,
     row: usize,
     column: usize,
-    table: &[u32],
-) -> Result<u32, ValueFault>
-    ghost games: { List Game × List Game }
+    table: &[Game],
+) -> Result<Game, ValueFault>
+    ghost games: { List tree.Game × List tree.Game }
     requires ready { IsReady work.old.arena terms.now games row column table.now }
     requires node { IsNode (game_of games.0 row) ⊎ IsNode (game_of games.1 column) }
     ensures { SumMade (work_state S.state work.old) (work_state S.state work.new) work.old.arena work.new.arena
@@ -163,7 +164,7 @@ fn made_item<B: BoardForms, S: CellStore<GameFacts<B>>>(
     let sum = summed_item(alloc, work, terms, row, column, table)?;
     let f = terms.firsts.positions[row];
     let k = terms.seconds.positions[column];
-    work.learn_sum_at(f.index, k.index, sum);
+    work.learn_sum(f.game, k.game, sum);
     Ok(sum)
 }
 
@@ -177,9 +178,9 @@ fn summed_item<B: BoardForms, S: CellStore<GameFacts<B>>>(
     terms: &Terms,
     row: usize,
     column: usize,
-    table: &[u32],
-) -> Result<u32, ValueFault>
-    ghost games: { List Game × List Game }
+    table: &[Game],
+) -> Result<Game, ValueFault>
+    ghost games: { List tree.Game × List tree.Game }
     requires ready { IsReady work.old.arena terms.now games row column table.now }
     requires node { IsNode (game_of games.0 row) ⊎ IsNode (game_of games.1 column) }
     ensures { SumMade (work_state S.state work.old) (work_state S.state work.new) work.old.arena work.new.arena
@@ -192,18 +193,18 @@ fn summed_item<B: BoardForms, S: CellStore<GameFacts<B>>>(
         row,
         column,
     };
-    let own = lefts(&terms.firsts, f);
-    let others = rights(&terms.firsts, f);
-    let left = side(alloc, table, own, lefts(&terms.seconds, k), places)?;
-    let right = side(alloc, table, others, rights(&terms.seconds, k), places)?;
+    let own = lefts(&terms.firsts, &f);
+    let others = rights(&terms.firsts, &f);
+    let left = side(alloc, table, own, lefts(&terms.seconds, &k), places)?;
+    let right = side(alloc, table, others, rights(&terms.seconds, &k), places)?;
     if f.is_number || k.is_number {
-        return work.form_item_at(alloc, left.as_slice(), right.as_slice(), 1);
+        return work.make_given(alloc, left.as_slice(), right.as_slice(), 1);
     }
     let first_term = FirstTerm {
         lefts: own.len(),
         rights: others.len(),
     };
-    work.sum_item_at(alloc, left.as_slice(), right.as_slice(), first_term, 1)
+    work.make_of_terms(alloc, left.as_slice(), right.as_slice(), first_term, 1)
 }
 
 // Where a sum stands in the table.
@@ -219,11 +220,11 @@ struct Places {
 #[inline(always)]
 fn side(
     alloc: Global,
-    table: &[u32],
+    table: &[Game],
     firsts: &[usize],
     seconds: &[usize],
     at: Places,
-) -> Result<SmallVec<u32, 8>, AllocError>
+) -> Result<SmallVec<Game, 8>, AllocError>
     requires firsts { All (λ p. p * at.columns + at.column < length table.now) firsts.now }
     requires seconds { All (λ q. q * 1 + at.row * at.columns < length table.now) seconds.now }
     requires row { at.row * at.columns ≤ length table.now }

@@ -4,7 +4,7 @@ ghost use Rattle.cg_arena.specs.Arena.{game_of};
 ghost use Rattle.cg_canon.specs.Made.{Gives};
 ghost use Rattle.cg_canon.specs.Walk.{IsWalk};
 ghost use Rattle.cg_canon.specs.Works.{work_state};
-ghost use Rattle.cg_form.specs.Game.{Game};
+ghost use Rattle.cg_form.specs.Game as tree;
 ghost use Rattle.cg_form.specs.Sum.{negative as minus};
 ghost use Rattle.cg_nodes.specs.Can.{can};
 ghost use Rattle.cg_nodes.specs.Games.{IsGame, game_at};
@@ -14,7 +14,7 @@ ghost use Rattle.cg_sum.specs.Progress.{FormMade, FormsMade, HoldsForms, indexes
 use crate::item::number_at;
 use crate::sides::{gather, lefts, rights};
 use crate::terms::walked;
-use cg_canon::{FirstTerm, ValueFault, Walk, Work};
+use cg_canon::{FirstTerm, Game, ValueFault, Walk, Work};
 use cg_cells::CellStore;
 use cg_nodes::{BoardForms, GameFacts, Handle};
 use smallvec::SmallVec;
@@ -39,17 +39,17 @@ pub fn negative<B: BoardForms, S: CellStore<GameFacts<B>>>(
     let walk = walked(alloc, work, a)?;
     let mut table = Vec::with_capacity(alloc, walk.positions.len())?;
     add_negatives(alloc, work, &walk, &mut table)?;
-    Ok(work.handle_at(table[table.len() - 1]))
+    Ok(work.handle(table[table.len() - 1]))
 }
 
-// Makes the items of the negatives of the positions, and puts their indexes in the table.
+// Makes the items of the negatives of the positions, and puts them in the table.
 fn add_negatives<B: BoardForms, S: CellStore<GameFacts<B>>>(
     alloc: Global,
     work: &mut Work<B, S>,
     walk: &Walk,
-    table: &mut Vec<u32>,
+    table: &mut Vec<Game>,
 ) -> Result<(), ValueFault>
-    ghost games: { List Game }
+    ghost games: { List tree.Game }
     requires walk { IsWalk work.old.arena walk.now games }
     requires none { table.old.items ≡ [] }
     ensures { let W = work_state S.state work.old in FormsMade W (work_state S.state work.new) work.old.arena
@@ -69,9 +69,9 @@ fn negative_item<B: BoardForms, S: CellStore<GameFacts<B>>>(
     work: &mut Work<B, S>,
     walk: &Walk,
     place: usize,
-    table: &[u32],
-) -> Result<u32, ValueFault>
-    ghost games: { List Game }
+    table: &[Game],
+) -> Result<Game, ValueFault>
+    ghost games: { List tree.Game }
     requires walk { IsWalk work.old.arena walk.now games }
     requires place { place < length games }
     requires holds { HoldsForms work.old.arena (negative_at_place games) place table.now }
@@ -80,26 +80,26 @@ fn negative_item<B: BoardForms, S: CellStore<GameFacts<B>>>(
 {
     let f = walk.positions[place];
     if f.is_number {
-        let x = number_at(work, f.index);
-        return work.number_item_at(Some(x.negate()), 0);
+        let x = number_at(work, f.game);
+        return work.make_number(Some(x.negate()), 0);
     }
-    let own = rights(walk, f);
-    let others = lefts(walk, f);
+    let own = rights(walk, &f);
+    let others = lefts(walk, &f);
     let left = negatives_of(alloc, table, own)?;
     let right = negatives_of(alloc, table, others)?;
     let first_term = FirstTerm {
         lefts: own.len(),
         rights: others.len(),
     };
-    work.sum_item_at(alloc, left.as_slice(), right.as_slice(), first_term, 0)
+    work.make_of_terms(alloc, left.as_slice(), right.as_slice(), first_term, 0)
 }
 
-// The indexes of the negatives of the positions at the places.
+// The negatives of the positions at the places.
 fn negatives_of(
     alloc: Global,
-    table: &[u32],
+    table: &[Game],
     places: &[usize],
-) -> Result<SmallVec<u32, 8>, AllocError>
+) -> Result<SmallVec<Game, 8>, AllocError>
     requires { All (λ p. p * 1 + 0 < length table.now) places.now }
     ensures { IfOk result (λ all. all.items ≡ indexes table.now 1 0 places.now) }
 {

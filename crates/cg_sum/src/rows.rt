@@ -6,12 +6,12 @@ ghost use Rattle.cg_arena.specs.Arena.{game_of};
 ghost use Rattle.cg_canon.specs.Walk.{IsWalk};
 ghost use Rattle.cg_canon.specs.SumItems.{pair_items, row_items};
 ghost use Rattle.cg_canon.specs.Works.{work_state};
-ghost use Rattle.cg_form.specs.Game.{Game};
+ghost use Rattle.cg_form.specs.Game as tree;
 ghost use Rattle.cg_sum.specs.Progress.{FormsMade, HoldsForms, sum_at_place};
 
 use crate::item::sum_item;
 use crate::terms::Terms;
-use cg_canon::{ValueFault, Work};
+use cg_canon::{Game, ValueFault, Work};
 use cg_cells::CellStore;
 use cg_nodes::{BoardForms, GameFacts};
 use std::alloc::Global;
@@ -22,9 +22,9 @@ pub(crate) fn add_rows<B: BoardForms, S: CellStore<GameFacts<B>>>(
     alloc: Global,
     work: &mut Work<B, S>,
     terms: &Terms,
-    table: &mut Vec<u32>,
+    table: &mut Vec<Game>,
 ) -> Result<(), ValueFault>
-    ghost games: { List Game × List Game }
+    ghost games: { List tree.Game × List tree.Game }
     requires firsts { IsWalk work.old.arena terms.now.firsts games.0 }
     requires seconds { IsWalk work.old.arena terms.now.seconds games.1 }
     requires none { table.old.items ≡ [] }
@@ -46,9 +46,9 @@ fn add_row<B: BoardForms, S: CellStore<GameFacts<B>>>(
     work: &mut Work<B, S>,
     terms: &Terms,
     row: usize,
-    table: &mut Vec<u32>,
+    table: &mut Vec<Game>,
 ) -> Result<(), ValueFault>
-    ghost games: { List Game × List Game }
+    ghost games: { List tree.Game × List tree.Game }
     requires firsts { IsWalk work.old.arena terms.now.firsts games.0 }
     requires seconds { IsWalk work.old.arena terms.now.seconds games.1 }
     requires row { row < length games.0 }

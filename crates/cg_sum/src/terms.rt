@@ -44,8 +44,8 @@ pub(crate) fn walked<B: BoardForms, S: CellStore<GameFacts<B>>>(
     ensures begins { Begins work.old.arena work.new.arena }
     ensures spends { Spends 0 (work_state S.state work.old) (work_state S.state work.new) }
 {
-    let index = work.index(alloc, handle)?;
-    work.walk(alloc, index)
+    let game = work.game(alloc, handle)?;
+    work.walk(alloc, game)
 }
 
 /// The positions of both games, unless there are more pairs of them than the limit.

@@ -46,9 +46,9 @@ fn wall_pair_at<B: BoardForms, S: CellStore<GameFacts<B>>>(
     ensures range { result ≡ Err ThermoFault.Range → Rough (game_of (walked work.now.arena walk.now) place) }
 {
     let position = walk.positions[place];
-    match work.read_at(position.index) {
+    match work.arena().read(position.game) {
         Read::Number(x) => Ok(number_wall_pair(alloc, x)),
-        Read::Game(_, _) => {
+        Read::Options(_, _) => {
             let lefts = &walk.options[position.lefts..position.rights];
             let rights = &walk.options[position.rights..position.end];
             let low = highest_wall(alloc, wall_pairs, lefts, true)?;

@@ -24,8 +24,8 @@ pub fn stops<B: BoardForms, S: CellStore<GameFacts<B>>>(
     ensures stops { IfOk result (StopsAre (game_at (work_state S.state work.old) a)) }
     ensures spends { Spends 0 (work_state S.state work.old) (work_state S.state work.new) }
 {
-    let index = work.index(alloc, a)?;
-    let summary = work.summary_at(index);
+    let game = work.game(alloc, a)?;
+    let summary = work.arena().summary(game);
     Ok(Stops {
         left: summary.high.at,
         right: summary.low.at,

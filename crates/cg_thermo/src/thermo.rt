@@ -20,7 +20,7 @@ use crate::corners::{Corners, corners_of};
 use crate::fault::ThermoFault;
 use crate::pairing_walls::wall_pairs_of;
 use crate::wall_pair::WallPair;
-use cg_canon::{Read, Walk, Work};
+use cg_canon::{Game, Read, Walk, Work};
 use cg_cells::CellStore;
 use cg_dyadic::{Dyadic, Wide};
 use cg_nodes::{BoardForms, GameFacts, Handle, PositionsFault, known_game};
@@ -50,20 +50,20 @@ fn number_temperature(x: Dyadic) -> Wide
     }
 }
 
-// The temperature of the game at the index: of a number that of the number, and of another game where its mast begins.
+// The temperature of the game: of a number that of the number, and of another game where its mast begins.
 fn temperature<B: BoardForms, S: CellStore<GameFacts<B>>>(
     work: &Work<B, S>,
-    index: u32,
+    game: Game,
     end: u128,
 ) -> Wide
-    requires index { IsIndex work.now.arena index }
+    requires game { IsIndex work.now.arena game }
     requires end { end < END }
-    ensures number { (x : Number) → game_of work.now.arena index ≡ number x → result ≡ ratio (negsuc 0) (exp_of x) }
-    ensures other { IsNode (game_of work.now.arena index) → result ≡ ratio (pos end) places }
+    ensures number { (x : Number) → game_of work.now.arena game ≡ number x → result ≡ ratio (negsuc 0) (exp_of x) }
+    ensures other { IsNode (game_of work.now.arena game) → result ≡ ratio (pos end) places }
 {
-    match work.read_at(index) {
+    match work.arena().read(game) {
         Read::Number(x) => number_temperature(x),
-        Read::Game(_, _) => Wide::of_units(end as i128),
+        Read::Options(_, _) => Wide::of_units(end as i128),
     }
 }
 
@@ -88,17 +88,17 @@ fn pictured(alloc: Global, wall_pair: &WallPair, temp: Wide) -> Result<Walls, Al
     })
 }
 
-// The positions of the game at the index. The only error is want of memory.
+// The positions of the game. The only error is want of memory.
 fn each_position<B: BoardForms, S: CellStore<GameFacts<B>>>(
     alloc: Global,
     work: &mut Work<B, S>,
-    index: u32,
+    game: Game,
 ) -> Result<Walk, AllocError>
-    requires { IsIndex work.old.arena index }
-    ensures walk { IfOk result (λ w. IsWalk work.old.arena w (positions_of (game_of work.old.arena index))) }
+    requires { IsIndex work.old.arena game }
+    ensures walk { IfOk result (λ w. IsWalk work.old.arena w (positions_of (game_of work.old.arena game))) }
     ensures same { work.new ≡ work.old }
 {
-    match work.walk_within(alloc, index, u64::MAX) {
+    match work.walk_within(alloc, game, u64::MAX) {
         Ok(walk) => Ok(walk),
         Err(PositionsFault::Positions) => unreachable!(),
         Err(PositionsFault::Memory) => Err(AllocError),
@@ -122,10 +122,10 @@ pub fn thermograph<B: BoardForms, S: CellStore<GameFacts<B>>>(
     ensures spends { Spends 0 (work_state S.state work.old) (work_state S.state work.new) }
 {
     known_game(work, a);
-    let index = work.index(alloc, a)?;
-    let walk = each_position(alloc, work, index)?;
+    let game = work.game(alloc, a)?;
+    let walk = each_position(alloc, work, game)?;
     let wall_pairs = wall_pairs_of(alloc, work, &walk)?;
     let wall_pair = &wall_pairs[wall_pairs.len() - 1];
-    let temp = temperature(work, index, wall_pair.end);
+    let temp = temperature(work, game, wall_pair.end);
     Ok(pictured(alloc, wall_pair, temp)?)
 }

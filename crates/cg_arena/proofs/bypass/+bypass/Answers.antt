@@ -1,4 +1,4 @@
-use Rattle.std.proofs.Common.{get_or, refl, rules}
+use Rattle.std.proofs.Common.{refl, rules}
 use Rattle.std.proofs.lemmas.Option.{MatchOption-at_none, MatchOption-at_some}
 use Rattle.cg_form.proofs.Sides.{size-far}
 use Rattle.cg_arena.specs.Arena.{game_of, games_of}
@@ -7,7 +7,7 @@ use Rattle.cg_arena.proofs.Against.{near_side}
 use Rattle.cg_arena.proofs.Bypassing.{bypassed_more, far_of_same, kept_there, replaced_and_passed, replaced_by_none}
 use Rattle.cg_arena.proofs.Bypassing.{replaced_by_one, through_fine, through_less, through_node, through_number}
 use Rattle.cg_arena.proofs.Results.{always_ok, if_ok}
-use Rattle.cg_arena.proofs.Slices.{item_among, item_size, index_of_item}
+use Rattle.cg_arena.proofs.Slices.{index_of_item, item_among, item_is, item_size}
 use Rattle.cg_arena.proofs.bypass.+bypass.Goals as goal
 
 -- ---- one option
@@ -40,7 +40,7 @@ pub bypass_through-bypass_list-requires : goal.bypass_through-bypass_list-requir
 bypass_through-bypass_list-requires t c =
     let gs = c.args.arena.now in
     let answer = game_of gs c.args.answer in
-    let side = near_side gs answer c.in-Game.lefts.now c.in-Game.rights.now c.chosen-near.result.now c.args.left c.in-Game.ensures.read c.chosen-near.ensures in
+    let side = near_side gs answer c.in-Options.lefts.now c.in-Options.rights.now c.chosen-near.result.now c.args.left c.in-Options.ensures.read c.chosen-near.ensures in
     let less = through_less c.args.left (unreduced_game gs c.args.unreduced.now) answer (games_of gs c.chosen-near.result.now) side.same c.requires.back in
     let smaller = side.size in
     let there = side.indexes in
@@ -58,11 +58,11 @@ bypass_through-returns-in-Number-clause-done t c =
     (λ m a k. through_number c.args.left unreduced (game_of gs c.args.answer) c.in-Number.field-0
     (games_of gs c.push.new.self.items.items) c.in-Number.ensures.read c.requires.back m a k))
 
-pub bypass_through-returns-in-Game-clause-done : goal.bypass_through-returns-in-Game-clause-done
-bypass_through-returns-in-Game-clause-done t c =
+pub bypass_through-returns-in-Options-clause-done : goal.bypass_through-returns-in-Options-clause-done
+bypass_through-returns-in-Options-clause-done t c =
     let gs = c.args.arena.now in
     let answer = game_of gs c.args.answer in
-    let side = near_side gs answer c.in-Game.lefts.now c.in-Game.rights.now c.chosen-near.result.now c.args.left c.in-Game.ensures.read c.chosen-near.ensures in
+    let side = near_side gs answer c.in-Options.lefts.now c.in-Options.rights.now c.chosen-near.result.now c.args.left c.in-Options.ensures.read c.chosen-near.ensures in
     if_ok c.bypass_list.result _ _ c.bypass_list.ensures.done
     (λ r d. record {
       out = d.out;
@@ -89,21 +89,21 @@ bypass_once-returns-clause-done t c =
 pub bypass_list-bypass_once-requires : goal.bypass_list-bypass_once-requires
 bypass_list-bypass_once-requires t c =
     let gs = c.args.arena.now in
-    let x = get_or c.args.list.now c.loop-option.option-index 0 in
-    let index = index_of_item gs c.args.list.now c.loop-option.option-index x c.requires.list c.loop-option-test.true refl in
-    let smaller = item_size gs c.args.list.now c.loop-option.option-index x c.loop-option-test.true refl in
-    let less = c.requires.less.each (game_of gs x) (item_among gs c.args.list.now c.loop-option.option-index x c.loop-option-test.true refl) in
+    let x = c.option-item.result in
+    let index = index_of_item gs c.args.list.now c.loop-option.option-index x c.requires.list c.loop-option-test.true (item_is c.args.list.now c.loop-option.option-index _ c.option-item.is c.loop-option-test.true) in
+    let smaller = item_size gs c.args.list.now c.loop-option.option-index x c.loop-option-test.true (item_is c.args.list.now c.loop-option.option-index _ c.option-item.is c.loop-option-test.true) in
+    let less = c.requires.less.each (game_of gs x) (item_among gs c.args.list.now c.loop-option.option-index x c.loop-option-test.true (item_is c.args.list.now c.loop-option.option-index _ c.option-item.is c.loop-option-test.true)) in
     search rules
 
 pub bypass_list-loop-option-preserved : goal.bypass_list-loop-option-preserved
 bypass_list-loop-option-preserved t c =
     let gs = c.args.arena.now in
-    let x = get_or c.args.list.now c.loop-option.option-index 0 in
+    let x = c.option-item.result in
     record {
       known = c.bypass_once.ensures.known;
       out = c.in_ok-bypass_once.ensures.done.out;
       so_far = bypassed_more gs c.args.left (unreduced_game gs c.args.unreduced.now) c.args.list.now c.args.out.now.items.items
           c.loop-option.out.items.items c.bypass_once.new.out.items.items c.loop-option.option-index x
-          c.loop-option.invariant.so_far c.loop-option-test.true refl c.in_ok-bypass_once.ensures.done.grown
+          c.loop-option.invariant.so_far c.loop-option-test.true (item_is c.args.list.now c.loop-option.option-index _ c.option-item.is c.loop-option-test.true) c.in_ok-bypass_once.ensures.done.grown
           (c.in_ok-bypass_once.ensures.done.covered (game_of gs x) refl);
     }

@@ -1,16 +1,16 @@
-use Rattle.std.proofs.Common.{rules, refl, ap, sym, ◌∙◌, length, ◌≤◌, ◌<◌, arith, slice_index_or}
-use Rattle.std.proofs.lemmas.List.Elements.{All-get_or}
+use Rattle.std.proofs.Common.{rules, ap, sym, ◌∙◌, length, ◌≤◌, ◌<◌, arith}
+use Rattle.std.proofs.lemmas.Bool.Decides.{Decides-eqb}
 use Rattle.cg_form.specs.Structure.{game_cmp}
 use Rattle.cg_form.proofs.Structure.{game_cmp-refl}
-use Rattle.cg_arena.specs.Arena.{IsIndex, game_of}
+use Rattle.cg_arena.specs.Arena.{game_of}
 use Rattle.cg_arena.proofs.ListOrder.{passed_longer, passed_shorter}
-use Rattle.cg_arena.proofs.Slices.{item_size}
+use Rattle.cg_arena.proofs.Slices.{index_of_item, item_is, item_size}
 use Rattle.cg_arena.proofs.structure.+compare.Goals as goal
 
-pub compare-returns-then-a-b : goal.compare-returns-then-a-b
-compare-returns-then-a-b t c =
+pub compare-returns-then-eq : goal.compare-returns-then-eq
+compare-returns-then-eq t c =
     let gs = c.args.arena.now in
-    sym (ap (λ z. game_cmp (game_of gs z) (game_of gs c.args.b)) c.if-a-b.true ∙ game_cmp-refl (game_of gs c.args.b))
+    sym (ap (λ z. game_cmp (game_of gs z) (game_of gs c.args.b)) ((Decides-eqb c.args.a c.args.b).0 (sym c.eq.ensures ∙ c.if-eq.true)) ∙ game_cmp-refl (game_of gs c.args.b))
 
 pub compare_lists-returns-then-i-b : goal.compare_lists-returns-then-i-b
 compare_lists-returns-then-i-b t c =
@@ -19,11 +19,13 @@ compare_lists-returns-then-i-b t c =
 pub compare_lists-compare-order-requires : goal.compare_lists-compare-order-requires
 compare_lists-compare-order-requires t c =
     let l : c.loop-i.i < length c.args.b.now = omega (arith, c.if-i-b.false) in
-    let k = item_size c.args.arena.now c.args.a.now c.loop-i.i (slice_index_or c.args.a.now c.loop-i.i 0) c.loop-i-test.true refl in (
+    let first = item_is c.args.a.now c.loop-i.i _ c.index-a-i.is c.loop-i-test.true in
+    let second = item_is c.args.b.now c.loop-i.i _ c.index-b-i.is l in
+    let k = item_size c.args.arena.now c.args.a.now c.loop-i.i c.index-a-i.result c.loop-i-test.true first in (
       search rules,
       (
-        All-get_or (IsIndex c.args.arena.now) c.args.a.now c.loop-i.i 0 c.loop-i-test.true c.requires.a,
-        All-get_or (IsIndex c.args.arena.now) c.args.b.now c.loop-i.i 0 l c.requires.b,
+        index_of_item c.args.arena.now c.args.a.now c.loop-i.i c.index-a-i.result c.requires.a c.loop-i-test.true first,
+        index_of_item c.args.arena.now c.args.b.now c.loop-i.i c.index-b-i.result c.requires.b l second,
       ),
     )
 

@@ -20,18 +20,18 @@ returns-in_err-reserve-2-clause-holds g c =
     holds_same (g.S.CellStore.state c.args.store.now) b (record b { by_id = c.reserve.new.self; handles = c.reserve-2.new.self }) c.requires.holds
     refl c.reserve-2.ensures.items refl c.reserve.ensures refl refl refl
 
-pub returns-in_err-index-clause-holds : goal.returns-in_err-index-clause-holds
-returns-in_err-index-clause-holds g c =
+pub returns-in_err-game-clause-holds : goal.returns-in_err-game-clause-holds
+returns-in_err-game-clause-holds g c =
     let b = c.args.interner.now in
     holds_same (g.S.CellStore.state c.args.store.now) b
     (record b { arena = c.add_game.new.self; by_id = c.reserve.new.self; handles = c.reserve-2.new.self }) c.requires.holds
-    c.in_err-index.ensures.same c.reserve-2.ensures.items refl c.reserve.ensures refl refl refl
+    c.in_err-game.ensures.same c.reserve-2.ensures.items refl c.reserve.ensures refl refl refl
 
 pub returns-clause-holds : goal.returns-clause-holds
 returns-clause-holds g c =
     let b = c.args.interner.now in
     let made : Game = node (games_of b.arena c.args.lefts.now) (games_of b.arena c.args.rights.now) in
-    let more = c.name.ensures.arena ∙ c.in_ok-index.ensures.games in
+    let more = c.name.ensures.arena ∙ c.in_ok-game.ensures.games in
     let canonical = subst Canonical c.requires.is c.requires.canonical in
     let known = subst (AreRecognized b.arena) (sym c.name.ensures.recognized) c.requires.holds.recognized in
     holds_more (g.S.CellStore.state c.args.store.now) b (record c.name.new.self { recognized = c.enter.new.self }) c.args.handle made c.requires.holds
@@ -39,12 +39,12 @@ returns-clause-holds g c =
     (c.name.ensures.handles ∙ ap (λ z. z ++ (c.args.handle ∷ [])) c.reserve-2.ensures.items) c.name.ensures.answers c.in_default.ensures.none
     (λ w. let (old, l) = c.name.ensures.indexed w in (old, l ∙ ap (λ z. z ++ (c.args.handle ∷ [])) c.reserve.ensures))
     c.name.ensures.pairs c.requires.game
-    (recognized_more b.arena c.name.new.self.arena c.name.new.self.recognized c.enter.new.self made c.in_ok-index.index c.seen-parts.result more
-    c.in_ok-index.ensures.index canonical (c.seen-parts.ensures b.arena known) c.enter.ensures known)
+    (recognized_more b.arena c.name.new.self.arena c.name.new.self.recognized c.enter.new.self made c.in_ok-game.game c.seen-parts.result more
+    c.in_ok-game.ensures.index canonical (c.seen-parts.ensures b.arena known) c.enter.ensures known)
 
-pub returns-in-Some-clause-index : goal.returns-in-Some-clause-index
-returns-in-Some-clause-index g c =
-    let k = known_index (g.S.CellStore.state c.args.store.now) c.args.interner.now c.args.handle c.in-Some.index c.requires.holds c.in-Some.ensures.index in
+pub returns-in-Some-clause-game : goal.returns-in-Some-clause-game
+returns-in-Some-clause-game g c =
+    let k = known_index (g.S.CellStore.state c.args.store.now) c.args.interner.now c.args.handle c.in-Some.game c.requires.holds c.in-Some.ensures.game in
     (k.0, k.1)
 
 pub add_game-requires-clause-few : goal.add_game-requires-clause-few

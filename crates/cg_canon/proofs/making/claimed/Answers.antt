@@ -13,8 +13,8 @@ claimed_game-handle-requires-clause-spare g c =
     c.requires.left_games c.requires.right_games c.requires.form.summary in
     omega (arith, cost, c.requires.spare)
 
-pub enter_form-index-requires : goal.enter_form-index-requires
-enter_form-index-requires g c =
+pub enter_form-game-requires : goal.enter_form-game-requires
+enter_form-game-requires g c =
     let s = g.S.CellStore.state c.args.store.now in
     let t = g.S.CellStore.state c.claimed_game-handle.new.store in
     let own = stands_game t c.claimed_game-handle.result _ c.claimed_game-handle.ensures.game
@@ -37,8 +37,8 @@ returns-clause-spends g c =
     let spends = c.claimed_game-handle.ensures.spends in
     (spends.0, omega (arith, cost, spends.1), spends.2)
 
-pub returns-clause-index : goal.returns-clause-index
-returns-clause-index g c =
+pub returns-clause-at : goal.returns-clause-at
+returns-clause-at g c =
     let t = g.S.CellStore.state c.claimed_game-handle.new.store in
     rw (← (stands_game t c.claimed_game-handle.result _ c.claimed_game-handle.ensures.game
-    ∙ same_node _ _ _ _ c.requires.left_games c.requires.right_games)) c.enter_form-index.ensures.index
+    ∙ same_node _ _ _ _ c.requires.left_games c.requires.right_games)) c.enter_form-game.ensures.game

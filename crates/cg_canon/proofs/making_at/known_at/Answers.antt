@@ -8,12 +8,12 @@ use Rattle.cg_canon.proofs.making_at.known_at.Goals as goal
 pub returns-clause-entered : goal.returns-clause-entered
 returns-clause-entered g c =
     let s = g.S.CellStore.state c.args.store.now in
-    let form = game_of c.args.interner.now.arena c.args.index in
+    let form = game_of c.args.interner.now.arena c.args.game in
     record {
-      paid = made_paid s s c.args.meter.now c.charge_form.new.self form c.args.extra c.handle.result 0 c.summary.result.now.cost (omega arith)
-          (nothing_spent s) c.in_ok-charge_form.ensures.ok c.in_ok-charge_form.ensures.fits
-          (named_stands s c.args.interner.now c.handle.result c.args.index c.requires.holds c.handle.ensures)
-          (c.in_ok-charge_form.ensures.charged form c.summary.ensures.summary);
-      at = record { within = c.requires.index; is = refl };
+      paid = made_paid s s c.args.meter.now c.charge_item.new.self form c.args.extra c.handle.result 0 c.charge.result.cost (omega arith)
+          (nothing_spent s) c.in_ok-charge_item.ensures.ok c.in_ok-charge_item.ensures.fits
+          (named_stands s c.args.interner.now c.handle.result c.args.game c.requires.holds c.handle.ensures)
+          (c.in_ok-charge_item.ensures.charged form c.charge.ensures);
+      at = record { within = c.requires.game; is = refl };
       begins = begins_none c.args.interner.now.arena;
     }

@@ -8,17 +8,17 @@ use Rattle.cg_canon.specs.Works.{work_state}
 use Rattle.cg_canon.proofs.InternerSteps.{game_begins, index_begins}
 use Rattle.cg_canon.proofs.order.le.Goals as goal
 
-pub le_at-requires-clause-a : goal.le_at-requires-clause-a
-le_at-requires-clause-a g c =
-    index_begins c.index.new.self.arena c.index-2.new.self.arena c.in_ok-first.first c.index-2.ensures.begins c.in_ok-first.ensures.index.within
+pub le-requires-clause-a : goal.le-requires-clause-a
+le-requires-clause-a g c =
+    index_begins c.game.new.self.arena c.game-2.new.self.arena c.in_ok-first.first c.game-2.ensures.begins c.in_ok-first.ensures.game.within
 
 pub returns-clause-order : goal.returns-clause-order
 returns-clause-order g c =
     let W = work_state g.S.CellStore.state in
-    let later = c.index-2.new.self.arena in
-    let first = game_begins c.index.new.self.arena later c.in_ok-first.first c.index-2.ensures.begins c.in_ok-first.ensures.index.within
-    ∙ c.in_ok-first.ensures.index.is in
-    let second = c.in_ok-second.ensures.index.is
-    ∙ game_later (W c.args.work.now) (W c.index.new.self) c.index.ensures.spends.known c.args.b c.requires.b in
-    if_ok c.le_at.result _ _ c.le_at.ensures.order
+    let later = c.game-2.new.self.arena in
+    let first = game_begins c.game.new.self.arena later c.in_ok-first.first c.game-2.ensures.begins c.in_ok-first.ensures.game.within
+    ∙ c.in_ok-first.ensures.game.is in
+    let second = c.in_ok-second.ensures.game.is
+    ∙ game_later (W c.args.work.now) (W c.game.new.self) c.game.ensures.spends.known c.args.b c.requires.b in
+    if_ok c.le.result _ _ c.le.ensures.order
     (λ r e. e ∙ ap (λ z. le z (game_of later c.in_ok-second.second)) first ∙ ap (le (game_at (W c.args.work.now) c.args.a)) second)

@@ -6,7 +6,7 @@ returns-in-Number g c =
     numbered c.args.work.now.arena c.args.left c.in-Number.x _ (λ v. v.items) c.options_of_number.result c.in-Number.ensures
     c.options_of_number.ensures
 
-pub returns-in-Game : goal.returns-in-Game
-returns-in-Game g c =
-    listed c.args.work.now.arena c.args.left _ c.in-Game.lefts.now c.in-Game.rights.now c.own.result.now (λ v. v.items)
-    c.positions_at.result c.in-Game.ensures c.own.ensures c.positions_at.ensures
+pub returns-in-Options : goal.returns-in-Options
+returns-in-Options g c =
+    listed c.args.work.now.arena c.args.left _ c.in-Options.lefts.now c.in-Options.rights.now c.own.result.now (λ v. v.items)
+    c.positions_at.result c.in-Options.ensures c.own.ensures c.positions_at.ensures

@@ -10,12 +10,12 @@ use Rattle.cg_cert.proofs.stage.stage_of.Goals as goal
 
 pub returns-clause-stands : goal.returns-clause-stands
 returns-clause-stands g c =
-    ((at_later _ _ _ _ c.index-2.ensures.begins c.in_ok-first.ensures.index).within, c.in_ok-second.ensures.index.within)
+    ((at_later _ _ _ _ c.game-2.ensures.begins c.in_ok-first.ensures.game).within, c.in_ok-second.ensures.game.within)
 
 pub returns-clause-pair : goal.returns-clause-pair
 returns-clause-pair g c =
     let W = work_state g.S.CellStore.state in
-    let first = at_later _ _ _ _ c.index-2.ensures.begins c.in_ok-first.ensures.index in
-    ap (λ z. pair z (game_of c.index-2.new.self.arena c.in_ok-second.second)) first.is
-    ∙ ap (pair (game_at (W c.args.work.now) c.args.g)) (c.in_ok-second.ensures.index.is
-    ∙ game_later (W c.args.work.now) (W c.index.new.self) c.index.ensures.spends.known c.args.h c.requires.h)
+    let first = at_later _ _ _ _ c.game-2.ensures.begins c.in_ok-first.ensures.game in
+    ap (λ z. pair z (game_of c.game-2.new.self.arena c.in_ok-second.second)) first.is
+    ∙ ap (pair (game_at (W c.args.work.now) c.args.g)) (c.in_ok-second.ensures.game.is
+    ∙ game_later (W c.args.work.now) (W c.game.new.self) c.game.ensures.spends.known c.args.h c.requires.h)

@@ -1,28 +1,20 @@
-use Rattle.std.proofs.Common.{refl, add-one, ap, ◌∙◌, Err, arith}
-use Rattle.std.proofs.lemmas.Result.{err_from_is_err_and}
+use Rattle.std.proofs.Common.{refl, add-one, arith}
 use Rattle.cg_canon.specs.Works.{work_state}
-use Rattle.cg_names.proofs.Steps.{given_game}
 use Rattle.cg_names.proofs.UpSteps.{last_before, ups_done, ups_first_refused, ups_next, ups_refused, ups_star_refused, ups_start}
 use Rattle.cg_names.proofs.arrows.make_ups.Goals as goal
 
 pub returns-in_err-zero : goal.returns-in_err-zero
-returns-in_err-zero g c =
-    let p = err_from_is_err_and c.from_residual.result c.from_residual.ensures.1 in
-    ups_first_refused _ _ _ _ _ _ _ c.in_err-zero.was (p.1 ∙ ap Err p.2) c.make_zero.ensures
+returns-in_err-zero g c = ups_first_refused _ _ _ _ c.in_err-zero.ensures c.from_residual.ensures.1
 
 pub returns-in_err-last : goal.returns-in_err-last
 returns-in_err-last g c =
-    let p = err_from_is_err_and c.from_residual-in_err-last.result c.from_residual-in_err-last.ensures.1 in
-    ups_star_refused _ _ _ _ _ _ _ c.in_ok-zero.was c.make_zero.ensures _ c.make_star.ensures _ _
-    c.in_err-last.was (p.1 ∙ ap Err p.2)
+    ups_star_refused _ _ _ _ _ _ c.in_ok-zero.ensures c.in_err-last.ensures c.from_residual-in_err-last.ensures.1
 
 pub loop-level-init : goal.loop-level-init
-loop-level-init g c =
-    ups_start _ _ _ _ _ _ _ c.in_ok-zero.was c.make_zero.ensures _ c.make_star.ensures _ _ c.in_ok-last.was
-    refl
+loop-level-init g c = ups_start _ _ _ _ _ _ c.in_ok-zero.ensures _ _ c.in_ok-last.ensures refl
 
 pub make_star-requires : goal.make_star-requires
-make_star-requires g c = given_game _ _ _ _ _ _ c.in_ok-zero.was c.make_zero.ensures
+make_star-requires g c = c.in_ok-zero.ensures.game
 
 pub make_next-requires-clause-zero : goal.make_next-requires-clause-zero
 make_next-requires-clause-zero g c = c.loop-level.invariant.zero_stands
@@ -33,15 +25,11 @@ make_next-requires-clause-last g c =
 
 pub returns-in_err-last-2 : goal.returns-in_err-last-2
 returns-in_err-last-2 g c =
-    let p = err_from_is_err_and c.from_residual-in_err-last-2.result c.from_residual-in_err-last-2.ensures.1 in
-    ups_refused _ _ _ _ _ _ _ _ _ c.loop-level.invariant _ c.make_next.ensures c.loop-level-test.true _ _
-    c.in_err-last-2.was (p.1 ∙ ap Err p.2)
+    ups_refused _ _ _ _ _ _ _ _ _ c.loop-level.invariant c.loop-level-test.true c.in_err-last-2.ensures c.from_residual-in_err-last-2.ensures.1
 
 pub loop-level-preserved : goal.loop-level-preserved
 loop-level-preserved g c =
-    ups_next _ _ _ _ _ _ _ _ _ c.loop-level.invariant c.make_next.result c.make_next.ensures
-    c.loop-level-test.true _ _ c.in_ok-last-2.was
-    (add-one c.loop-level.level)
+    ups_next _ _ _ _ _ _ _ _ _ c.loop-level.invariant c.loop-level-test.true _ _ c.in_ok-last-2.ensures (add-one c.loop-level.level)
 
 pub returns : goal.returns
 returns g c =

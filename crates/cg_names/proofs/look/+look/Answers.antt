@@ -47,7 +47,7 @@ named_of_two-returns-in-None-number_at-clause-named_form t c =
 pub stars-named_form-requires : goal.stars-named_form-requires
 stars-named_form-requires t c =
     let gs = c.args.arena.now in
-    let read = c.in-Game.ensures.read in
+    let read = c.in-Options.ensures.read in
     let split = games_pushed gs c.in-Some.others.now c.args.options.now c.in-Some.last.now c.in-Some.ensures.cases.0 in
     let m = ap list_size split in
     let n = last_size (games_of gs c.in-Some.others.now) (game_of gs c.in-Some.last.now) in
@@ -62,12 +62,12 @@ stars-star_on-requires-clause-others t c =
 pub steep-returns-in-Some-clause-named_form : goal.steep-returns-in-Some-clause-named_form
 steep-returns-in-Some-clause-named_form t c =
     named_tiny c.args.down _ (Some c.in-Some.size) c.in-Some.size refl
-    (tiny_at c.args.down c.args.x _ _ (Some c.in-Some.size) c.in-Game.ensures.read.2 c.in-Some.ensures)
+    (tiny_at c.args.down c.args.x _ _ (Some c.in-Some.size) c.in-Options.ensures.read.2 c.in-Some.ensures)
 
 pub steep-returns-in_ok-named_form-in-None-clause-named_form : goal.steep-returns-in_ok-named_form-in-None-clause-named_form
 steep-returns-in_ok-named_form-in-None-clause-named_form t c =
     let g = game_of c.args.arena.now c.args.last in
-    let e = c.in-Game.ensures.read.2 in
+    let e = c.in-Options.ensures.read.2 in
     let node = is_node g _ _ e in
     more-named_form c.args.down c.args.x g node c.one_more.result
     (c.one_more.ensures.more g node c.in_ok-named_form-in-None.ensures.named_form)

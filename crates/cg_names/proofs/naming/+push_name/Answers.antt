@@ -40,10 +40,10 @@ push_braces-returns-clause-text t c =
 
 pub push_name-returns-in-Some-clause-in_range : goal.push_name-returns-in-Some-clause-in_range
 push_name-returns-in-Some-clause-in_range t c =
-    signed-in_range c.push_named.result _ _ _ _ c.in-Some.named_form c.in-Game.ensures.read.2 c.in_ok-named_form-in-Game.ensures.named_form
+    signed-in_range c.push_named.result _ _ _ _ c.in-Some.named_form c.in-Options.ensures.read.2 c.in_ok-named_form-in-Options.ensures.named_form
     c.in-Some.is c.push_named.ensures.in_range
 
 pub push_name-returns-in-None-clause-in_range : goal.push_name-returns-in-None-clause-in_range
 push_name-returns-in-None-clause-in_range t c =
-    braced-in_range c.push_braces.result _ _ _ _ c.in-Game.ensures.read.2 c.in_ok-named_form-in-Game.ensures.named_form c.in-None.is
+    braced-in_range c.push_braces.result _ _ _ _ c.in-Options.ensures.read.2 c.in_ok-named_form-in-Options.ensures.named_form c.in-None.is
     c.push_braces.ensures.lefts_in_range c.push_braces.ensures.rights_in_range

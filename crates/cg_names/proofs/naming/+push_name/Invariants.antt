@@ -6,7 +6,7 @@ use Rattle.cg_names.proofs.Names.{Written}
 use Rattle.cg_names.proofs.naming.+push_name.Given as goal
 
 abbrev pub decreases-push_name : goal.decreases-push_name
-decreases-push_name l = 4 * size (game_of l.arena.now l.index)
+decreases-push_name l = 4 * size (game_of l.arena.now l.game)
 
 abbrev pub decreases-push_names : goal.decreases-push_names
 decreases-push_names l = 4 * list_size (games_of l.arena.now l.games.now) + 2

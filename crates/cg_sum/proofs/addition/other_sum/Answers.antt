@@ -76,8 +76,8 @@ index-requires g c =
     let count = holds.count in
     omega (arith, ok, len, count, some)
 
-pub handle_at-requires : goal.handle_at-requires
-handle_at-requires g c =
+pub handle-requires : goal.handle-requires
+handle-requires g c =
     let W = work_state g.S.CellStore.state in
     let w = W c.args.work.now in
     let v = W c.read_terms.new.work in
@@ -106,7 +106,7 @@ returns g c =
     let count = holds.count in
     record {
       game = stands_as x _ _ _ (last_at _ (sum_at_place _) _ _ holds some _ (last_sum w v x _ _ _ wv terms.firsts.at.1 terms.seconds.at.1) _ _
-          (omega (arith, ok, len, count, some)) c.index.ensures).is c.handle_at.ensures;
+          (omega (arith, ok, len, count, some)) c.index.ensures).is c.handle.ensures;
       made = made_with w x _ c.add_rows.result (Ok _) _ _ c.in_ok-add_rows.was refl
           (sum_made w v x _ _ _ wv terms.firsts.at.1 terms.seconds.at.1 _ terms.within c.add_rows.ensures.made);
       more = omega (arith, wv.spare, terms.start, c.add_rows.ensures.spare);

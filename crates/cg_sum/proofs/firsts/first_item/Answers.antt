@@ -4,7 +4,7 @@ use Rattle.cg_canon.proofs.MadeSteps.{made_with}
 use Rattle.cg_canon.specs.Works.{work_state}
 use Rattle.cg_nodes.proofs.Later.{stands_game, stands_is_game}
 use Rattle.cg_sum.proofs.FirstSteps.{first_later, first_stands, nimber_made}
-use Rattle.cg_sum.proofs.SumEnds.{made_handed}
+use Rattle.cg_canon.proofs.MadeCalls.{made_handed}
 use Rattle.cg_sum.proofs.firsts.first_item.Goals as goal
 
 pub item_of-requires-clause-game : goal.item_of-requires-clause-game

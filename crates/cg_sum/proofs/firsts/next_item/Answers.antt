@@ -5,7 +5,7 @@ use Rattle.cg_canon.specs.Works.{work_state}
 use Rattle.cg_form.specs.Game.{Game}
 use Rattle.cg_nodes.specs.Games.{StandsFor}
 use Rattle.cg_sum.proofs.FirstSteps.{first_later, first_more, next_canonical, next_games, nimber_made}
-use Rattle.cg_sum.proofs.SumEnds.{made_handed}
+use Rattle.cg_canon.proofs.MadeCalls.{made_handed}
 use Rattle.cg_sum.proofs.firsts.next_item.Goals as goal
 
 pub canonical_item-requires-clause-canonical : goal.canonical_item-requires-clause-canonical

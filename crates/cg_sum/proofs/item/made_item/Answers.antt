@@ -10,8 +10,8 @@ returns-in_err-sum g c =
     let p = err_from_is_err_and c.from_residual.result c.from_residual.ensures.1 in
     form_as _ _ _ _ _ _ _ _ _ (p.1 ∙ ap Err p.2 ∙ sym c.in_err-sum.was) c.summed_item.ensures
 
-pub learn_sum_at-requires : goal.learn_sum_at-requires
-learn_sum_at-requires g c =
+pub learn_sum-requires : goal.learn_sum-requires
+learn_sum-requires g c =
     let placed = placed_later _ _ c.summed_item.ensures.begins _ _ _ _ c.requires.1.1.1.0.placed in
     record {
       a = (first_at _ _ _ _ _ placed _ _ c.index-f.ensures c.index-k.ensures).within;
@@ -20,4 +20,4 @@ learn_sum_at-requires g c =
     }
 
 pub returns : goal.returns
-returns g c = rw c.learn_sum_at.ensures (form_as _ _ _ _ _ _ _ _ _ (sym c.in_ok-sum.was) c.summed_item.ensures)
+returns g c = rw c.learn_sum.ensures (form_as _ _ _ _ _ _ _ _ _ (sym c.in_ok-sum.was) c.summed_item.ensures)

@@ -21,14 +21,14 @@ returns-in-Some g c =
     let W = work_state g.S.CellStore.state in
     let w = W c.args.work.now in
     let u = W c.noted_sum.new.self in
-    let x = W c.item_at.new.self in
+    let x = W c.make_again.new.self in
     let wu = spends_then 1 0 w _ u c.pair_cell-cell.ensures.spends c.noted_sum.ensures.spends in
     let begins = begins_as _ _ _ c.pair_cell-cell.ensures.arena c.noted_sum.ensures.begins in
     let st = some_at _ _ _ _ c.in-Some.is (c.in_ok-sum.ensures.sum _ c.pair_cell-cell.ensures.note) in
     form_after w u x _ _ _ _ _ _ _ 1 wu begins u.spare
     (omega (arith, c.requires.1.1.1.1.1, c.spare.ensures.value, c.if-spare-terms.false, wu.spare))
     (given_form u x _ _ _ (omega arith) _ _ 1 1 _
-    (st.is ∙ same_sum _ _ _ _ _ c.requires.1.1.1.0.placed _ _ c.index-f.ensures c.index-k.ensures) c.item_at.ensures.item)
+    (st.is ∙ same_sum _ _ _ _ _ c.requires.1.1.1.0.placed _ _ c.index-f.ensures c.index-k.ensures) c.make_again.ensures.item)
 
 pub made_item-requires-2 : goal.made_item-requires-2
 made_item-requires-2 g c κs within = (

@@ -23,10 +23,10 @@ keep_pair-requires g c =
 pub returns : goal.returns
 returns g c = rw c.keep_pair.ensures (form_as _ _ _ _ _ _ _ _ _ (sym c.in_ok-sum.was) c.new_item.ensures)
 
-pub item_at-requires-clause-index : goal.item_at-requires-clause-index
-item_at-requires-clause-index g c = c.in-Some.ensures.within
+pub make_again-requires-clause-game : goal.make_again-requires-clause-game
+make_again-requires-clause-game g c = c.in-Some.ensures.within
 
 pub returns-in-Some : goal.returns-in-Some
 returns-in-Some g c =
     let W = work_state g.S.CellStore.state in
-    given_form (W c.args.work.now) (W c.item_at.new.self) _ _ _ c.requires.1.1.1.1 _ _ 1 1 _ c.in-Some.ensures.is c.item_at.ensures.item
+    given_form (W c.args.work.now) (W c.make_again.new.self) _ _ _ c.requires.1.1.1.1 _ _ 1 1 _ c.in-Some.ensures.is c.make_again.ensures.item

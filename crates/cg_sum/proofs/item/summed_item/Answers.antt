@@ -13,22 +13,22 @@ use Rattle.cg_sum.proofs.item.summed_item.Goals.{then-f-via-then-f, then-f-via-e
 
 -- a number and a game that is none
 
-pub form_item_at-requires : goal.form_item_at-requires
-form_item_at-requires g c =
+pub make_given-requires : goal.make_given-requires
+make_given-requires g c =
     let ready = c.requires.1.1.1.0 in
     let table = c.args.table.now in
     let n = c.len.ensures ∙ c.args.terms.now.seconds.positions.ok.0 ∙ count _ _ _ ready.placed.seconds in
     let l = c.as_slice.ensures ∙ side_is table _ _ c.args.row c.args.column _ _ _ _ _ n c.lefts-own.ensures c.lefts.ensures c.in_ok-left.ensures in
     let r = c.as_slice-then-f.ensures ∙ side_is table _ _ c.args.row c.args.column _ _ _ _ _ n c.rights-others.ensures c.rights.ensures c.in_ok-right.ensures in
     let some : IsNumber (game_of g.games.0 c.args.row) ⊎ IsNumber (game_of g.games.1 c.args.column) = elim c.then-f.branch [
-      | then-f-via-then-f w ↦ one_first _ _ _ _ _ ready.placed _ _ c.index-f.ensures c.index-k.ensures w.if-f.true
-      | then-f-via-else-f+then-k w ↦ one_second _ _ _ _ _ ready.placed _ _ c.index-f.ensures c.index-k.ensures w.if-k.true
+      | then-f-via-then-f w ↦ one_first _ _ _ _ _ ready.placed _ _ c.index.ensures c.index-2.ensures w.if-f.true
+      | then-f-via-else-f+then-k w ↦ one_second _ _ _ _ _ ready.placed _ _ c.index.ensures c.index-2.ensures w.if-k.true
     ] in
     record {
       extra = omega arith;
-      lefts = lefts_are _ _ _ _ _ table ready _ _ c.index-f.ensures c.index-k.ensures _ _ l r;
-      rights = rights_are _ _ _ _ _ table ready _ _ c.index-f.ensures c.index-k.ensures _ _ l r;
-      canonical = summed_canonical _ _ _ _ _ table ready _ _ c.index-f.ensures c.index-k.ensures _ _ l r c.requires.1.1.1.1 some;
+      lefts = lefts_are _ _ _ _ _ table ready _ _ c.index.ensures c.index-2.ensures _ _ l r;
+      rights = rights_are _ _ _ _ _ table ready _ _ c.index.ensures c.index-2.ensures _ _ l r;
+      canonical = summed_canonical _ _ _ _ _ table ready _ _ c.index.ensures c.index-2.ensures _ _ l r c.requires.1.1.1.1 some;
     }
 
 pub returns-then-f : goal.returns-then-f
@@ -40,17 +40,17 @@ returns-then-f g c =
     let l = c.as_slice.ensures ∙ side_is table _ _ c.args.row c.args.column _ _ _ _ _ n c.lefts-own.ensures c.lefts.ensures c.in_ok-left.ensures in
     let r = c.as_slice-then-f.ensures ∙ side_is table _ _ c.args.row c.args.column _ _ _ _ _ n c.rights-others.ensures c.rights.ensures c.in_ok-right.ensures in
     let some : IsNumber (game_of g.games.0 c.args.row) ⊎ IsNumber (game_of g.games.1 c.args.column) = elim c.then-f.branch [
-      | then-f-via-then-f w ↦ one_first _ _ _ _ _ ready.placed _ _ c.index-f.ensures c.index-k.ensures w.if-f.true
-      | then-f-via-else-f+then-k w ↦ one_second _ _ _ _ _ ready.placed _ _ c.index-f.ensures c.index-k.ensures w.if-k.true
+      | then-f-via-then-f w ↦ one_first _ _ _ _ _ ready.placed _ _ c.index.ensures c.index-2.ensures w.if-f.true
+      | then-f-via-else-f+then-k w ↦ one_second _ _ _ _ _ ready.placed _ _ c.index.ensures c.index-2.ensures w.if-k.true
     ] in
-    given_form (W c.args.work.now) (W c.form_item_at.new.self) _ _ _ (omega arith) _ _ 1 1 _
-    (sym (can-fixed _ (summed_canonical _ _ _ _ _ table ready _ _ c.index-f.ensures c.index-k.ensures _ _ l r c.requires.1.1.1.1 some))
-    ∙ summed_form _ _ _ _ _ table ready _ _ c.index-f.ensures c.index-k.ensures _ _ l r c.requires.1.1.1.1) c.form_item_at.ensures
+    given_form (W c.args.work.now) (W c.make_given.new.self) _ _ _ (omega arith) _ _ 1 1 _
+    (sym (can-fixed _ (summed_canonical _ _ _ _ _ table ready _ _ c.index.ensures c.index-2.ensures _ _ l r c.requires.1.1.1.1 some))
+    ∙ summed_form _ _ _ _ _ table ready _ _ c.index.ensures c.index-2.ensures _ _ l r c.requires.1.1.1.1) c.make_given.ensures
 
 -- two games that are none
 
-pub sum_item_at-requires : goal.sum_item_at-requires
-sum_item_at-requires g c =
+pub make_of_terms-requires : goal.make_of_terms-requires
+make_of_terms-requires g c =
     let ready = c.requires.1.1.1.0 in
     let table = c.args.table.now in
     let n = c.len.ensures ∙ c.args.terms.now.seconds.positions.ok.0 ∙ count _ _ _ ready.placed.seconds in
@@ -58,10 +58,10 @@ sum_item_at-requires g c =
     let r = c.as_slice-3.ensures ∙ side_is table _ _ c.args.row c.args.column _ _ _ _ _ n c.rights-others.ensures c.rights.ensures c.in_ok-right.ensures in
     record {
       extra = omega arith;
-      lefts = lefts_are _ _ _ _ _ table ready _ _ c.index-f.ensures c.index-k.ensures _ _ l r;
-      rights = rights_are _ _ _ _ _ table ready _ _ c.index-f.ensures c.index-k.ensures _ _ l r;
-      lefts_apart = lefts_apart_by _ _ _ _ _ table ready _ _ c.index-f.ensures c.index-k.ensures _ _ l r _ (ap length c.lefts-own.ensures);
-      rights_apart = rights_apart_by _ _ _ _ _ table ready _ _ c.index-f.ensures c.index-k.ensures _ _ l r _
+      lefts = lefts_are _ _ _ _ _ table ready _ _ c.index.ensures c.index-2.ensures _ _ l r;
+      rights = rights_are _ _ _ _ _ table ready _ _ c.index.ensures c.index-2.ensures _ _ l r;
+      lefts_apart = lefts_apart_by _ _ _ _ _ table ready _ _ c.index.ensures c.index-2.ensures _ _ l r _ (ap length c.lefts-own.ensures);
+      rights_apart = rights_apart_by _ _ _ _ _ table ready _ _ c.index.ensures c.index-2.ensures _ _ l r _
           (ap length c.rights-others.ensures);
     }
 
@@ -73,5 +73,5 @@ returns g c =
     let n = c.len.ensures ∙ c.args.terms.now.seconds.positions.ok.0 ∙ count _ _ _ ready.placed.seconds in
     let l = c.as_slice-2.ensures ∙ side_is table _ _ c.args.row c.args.column _ _ _ _ _ n c.lefts-own.ensures c.lefts.ensures c.in_ok-left.ensures in
     let r = c.as_slice-3.ensures ∙ side_is table _ _ c.args.row c.args.column _ _ _ _ _ n c.rights-others.ensures c.rights.ensures c.in_ok-right.ensures in
-    given_form (W c.args.work.now) (W c.sum_item_at.new.self) _ _ _ (omega arith) _ _ 1 1 _
-    (summed_form _ _ _ _ _ table ready _ _ c.index-f.ensures c.index-k.ensures _ _ l r c.requires.1.1.1.1) c.sum_item_at.ensures
+    given_form (W c.args.work.now) (W c.make_of_terms.new.self) _ _ _ (omega arith) _ _ 1 1 _
+    (summed_form _ _ _ _ _ table ready _ _ c.index.ensures c.index-2.ensures _ _ l r c.requires.1.1.1.1) c.make_of_terms.ensures

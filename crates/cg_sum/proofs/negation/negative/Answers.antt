@@ -67,8 +67,8 @@ index-requires g c =
     let count = holds.count in
     omega (arith, ok, len, count, some)
 
-pub handle_at-requires : goal.handle_at-requires
-handle_at-requires g c =
+pub handle-requires : goal.handle-requires
+handle-requires g c =
     let W = work_state g.S.CellStore.state in
     let w = W c.args.work.now in
     let v = W c.walked.new.work in
@@ -97,7 +97,7 @@ returns g c =
     let count = holds.count in
     record {
       game = stands_as x _ _ _ (last_at _ (negative_at_place _) _ _ holds some _ (last_negative w v x _ _ wv is) _ _
-          (omega (arith, ok, len, count, some)) c.index.ensures).is c.handle_at.ensures;
+          (omega (arith, ok, len, count, some)) c.index.ensures).is c.handle.ensures;
       made = made_with w x _ c.add_negatives.result (Ok _) _ _ c.in_ok-add_negatives.was refl
           (negative_made w v x _ _ wv is _ c.in_ok-walk.ensures.within c.add_negatives.ensures.made);
       more = omega (arith, wv.spare, c.add_negatives.ensures.spare);

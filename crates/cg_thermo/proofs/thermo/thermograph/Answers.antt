@@ -21,7 +21,7 @@ listed : (g : given.Over) (c : In_ok-walk g)
     → walked c.each_position.new.work.arena c.in_ok-walk.walk ≡ positions_of (game_at (work_state g.S.CellStore.state c.args.work.now) c.args.a)
 listed g c =
     ap (λ z. walked z.arena c.in_ok-walk.walk) c.each_position.ensures.same ∙ c.in_ok-walk.ensures.walk.at.1
-    ∙ ap positions_of c.in_ok-index.ensures.index.is
+    ∙ ap positions_of c.in_ok-game.ensures.game.is
 
 -- the wall_pair is that of the game
 own : (g : given.Over) (c : After-index-wall_pair g)
@@ -77,7 +77,7 @@ pictured-requires-clause-soon g c = (own g (goal.at.pictured-requires-clause-soo
 drawn : (g : given.Over) (c : In_ok-pictured g) → HasWallPair (game_at (work_state g.S.CellStore.state c.args.work.now) c.args.a) c.index-wall_pair.result.now
     → IsThermograph (game_at (work_state g.S.CellStore.state c.args.work.now) c.args.a) c.in_ok-pictured.field-0
 drawn g c k =
-    let here = ap (λ z. game_of z.arena c.in_ok-index.index) c.each_position.ensures.same ∙ c.in_ok-index.ensures.index.is in
+    let here = ap (λ z. game_of z.arena c.in_ok-game.game) c.each_position.ensures.same ∙ c.in_ok-game.ensures.game.is in
     let N : Game → Type 0 = λ z. IsNode z in
     is_thermograph _ c.index-wall_pair.result.now c.in_ok-pictured.field-0 c.temperature-temp.result k
     c.known_game.ensures.canonical c.in_ok-pictured.ensures.picture c.in_ok-pictured.ensures.temp

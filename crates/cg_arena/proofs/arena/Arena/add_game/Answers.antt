@@ -83,8 +83,8 @@ returns-clause-index c =
 pub returns-clause-games : goal.returns-clause-games
 returns-clause-games c = (pushed c).1
 
-pub overflow_cast-result : goal.overflow_cast-result
-overflow_cast-result c =
+pub overflow_cast-count : goal.overflow_cast-count
+overflow_cast-count c =
     let n = counted c.self.inside c.args.self.now c.self.invariant c.self.view_is in
     let few = c.requires.few in
     search rules

@@ -6,20 +6,20 @@ use Rattle.cg_canon.proofs.walk.Walk.position.Goals as goal
 
 pub put_options-requires-clause-found : goal.put_options-requires-clause-found
 put_options-requires-clause-found c = λ g m.
-    c.requires.found g (option_before c.args.arena.now (game_of c.args.arena.now c.args.index) c.in-Game.left_options.now c.in-Game.right_options.now g
-    c.in-Game.ensures.read.2 (inl m))
+    c.requires.found g (option_before c.args.arena.now (game_of c.args.arena.now c.args.game) c.in-Options.left_options.now c.in-Options.right_options.now g
+    c.in-Options.ensures.read.2 (inl m))
 
-pub put_options-requires-in-Game-clause-found : goal.put_options-requires-in-Game-clause-found
-put_options-requires-in-Game-clause-found c = λ g m.
+pub put_options-requires-in-Options-clause-found : goal.put_options-requires-in-Options-clause-found
+put_options-requires-in-Options-clause-found c = λ g m.
     rw c.put_options.ensures.positions (c.requires.found g (option_before c.args.arena.now
-    (game_of c.args.arena.now c.args.index) c.in-Game.left_options.now c.in-Game.right_options.now g c.in-Game.ensures.read.2 (inr m)))
+    (game_of c.args.arena.now c.args.game) c.in-Options.left_options.now c.in-Options.right_options.now g c.in-Options.ensures.read.2 (inr m)))
 
-pub returns-in_ok-put_options-in-Game-2-clause-place : goal.returns-in_ok-put_options-in-Game-2-clause-place
-returns-in_ok-put_options-in-Game-2-clause-place c =
+pub returns-in_ok-put_options-in-Options-2-clause-place : goal.returns-in_ok-put_options-in-Options-2-clause-place
+returns-in_ok-put_options-in-Options-2-clause-place c =
     let mid = c.put_options.new.self.options.items in
-    let new = c.put_options-in-Game.new.self.options.items in
-    node_place c.args.arena.now c.args.self.now.positions.items _ (game_of c.args.arena.now c.args.index) c.args.self.now.options.items mid new
-    c.in-Game.left_options.now c.in-Game.right_options.now (c.len-lefts.ensures ∙ c.args.self.now.options.ok.0)
-    (c.len-rights.ensures ∙ c.put_options.new.self.options.ok.0) (c.len.ensures ∙ c.put_options-in-Game.new.self.options.ok.0)
-    c.in_ok-put_options-in-Game.ensures.options (rw (← c.put_options.ensures.positions) c.in_ok-put_options-in-Game-2.ensures.options)
-    refl refl c.in-Game.ensures.read.2
+    let new = c.put_options-in-Options.new.self.options.items in
+    node_place c.args.arena.now c.args.self.now.positions.items _ (game_of c.args.arena.now c.args.game) c.args.self.now.options.items mid new
+    c.in-Options.left_options.now c.in-Options.right_options.now (c.len-lefts.ensures ∙ c.args.self.now.options.ok.0)
+    (c.len-rights.ensures ∙ c.put_options.new.self.options.ok.0) (c.len.ensures ∙ c.put_options-in-Options.new.self.options.ok.0)
+    c.in_ok-put_options-in-Options.ensures.options (rw (← c.put_options.ensures.positions) c.in_ok-put_options-in-Options-2.ensures.options)
+    refl refl c.in-Options.ensures.read.2

@@ -8,5 +8,5 @@ returns g c =
     let W = g.S.CellStore.state in
     let w = c.args.self.now in
     let hs = c.put_handles.new.handles.items in
-    stand_later (W w.store.now) (work_state W w) (λ i x e. e) hs (games_of w.arena c.args.indexes.now)
+    stand_later (W w.store.now) (work_state W w) (λ i x e. e) hs (games_of w.arena c.args.games.now)
     (rw (← c.self.view_is) c.in_ok-put_handles.ensures.handles)
