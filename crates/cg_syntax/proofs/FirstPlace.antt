@@ -1,6 +1,7 @@
 -- The first of the places of a byte.
 use Rattle.std.proofs.Common.{◌≡◌, ◌≢◌, refl, ap, sym, ◌∙◌, ℕ, ◌-◌, zero, suc, ◌+◌, ◌<◌, ◌≤◌, arith, ⊎_elim, List, [], ◌∷◌, length, get_or, nat_eq}
 use Rattle.std.proofs.lemmas.Bool.{cases_Bool, cond-true, cond-false, eqb-true, eq-eqb, ne_eqb, false≢true}
+use Rattle.cg_reading.proofs.Skip.{same_head, some_item}
 use Rattle.memchr.specs.Find.{is_byte, places, places_from}
 
 at_place : (a : ℕ) (hay : List ℕ) (i n : ℕ) → get_or hay i 0 ≡ a → places_from (is_byte a) hay i (suc n) ≡ i ∷ places_from (is_byte a) hay (i + 1) n
@@ -15,12 +16,6 @@ nowhere_at : (a : ℕ) (hay : List ℕ) (i : ℕ) → places_from (is_byte a) ha
 unfolding places_from
 nowhere_at a hay i = refl
 
-cons_nil : (x : ℕ) (xs : List ℕ) → x ∷ xs ≢ []
-cons_nil x xs e = let l : length (x ∷ xs) ≡ length {A = ℕ} [] = ap length e in omega (arith, l)
-
-same_head : (x y : ℕ) (xs ys : List ℕ) → x ∷ xs ≡ y ∷ ys → x ≡ y
-same_head x y xs ys e = ap (λ (l : List ℕ). get_or l 0 0) e
-
 one_further : (a : ℕ) (hay : List ℕ) (i n : ℕ) → get_or hay i 0 ≢ a → ((k : ℕ) → i + 1 ≤ k → k < n → get_or hay k 0 ≢ a)
     → (k : ℕ) → i ≤ k → k < n → get_or hay k 0 ≢ a
 one_further a hay i n other behind k low high =
@@ -34,7 +29,7 @@ no_place : (a : ℕ) (hay : List ℕ) (i n : ℕ) → places_from (is_byte a) ha
 no_place a hay i zero e = λ k low high is. absurd (omega (arith, low, high))
 no_place a hay i (suc n) e =
     ⊎_elim
-    (λ t. absurd (cons_nil i _ (sym (at_place a hay i n (eqb-true (get_or hay i 0) a t)) ∙ e)))
+    (λ t. absurd (some_item i _ (sym (at_place a hay i n (eqb-true (get_or hay i 0) a t)) ∙ e)))
     (λ f.
     let other : get_or hay i 0 ≢ a = λ is. false≢true (sym f ∙ eq-eqb (get_or hay i 0) a is) in
     let behind = no_place a hay (i + 1) n (sym (past_place a hay i n other) ∙ e) in
@@ -48,7 +43,7 @@ pub record FirstPlace (a : ℕ) (hay : List ℕ) (i n p : ℕ) : Type 0 where
   pub before : (k : ℕ) → i ≤ k → k < p → get_or hay k 0 ≢ a
 
 first_place : (a : ℕ) (hay : List ℕ) (i n p : ℕ) (rest : List ℕ) → places_from (is_byte a) hay i n ≡ p ∷ rest → FirstPlace a hay i (i + n) p
-first_place a hay i zero p rest e = absurd (cons_nil p rest (sym e ∙ nowhere_at a hay i))
+first_place a hay i zero p rest e = absurd (some_item p rest (sym e ∙ nowhere_at a hay i))
 first_place a hay i (suc n) p rest e =
     ⊎_elim
     (λ t.

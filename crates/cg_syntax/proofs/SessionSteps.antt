@@ -1,7 +1,7 @@
 -- A session line after line.
 use Rattle.std.proofs.Common.{◌≡◌, ℕ, suc, ◌+◌, ◌<◌, arith, length, Bool, true, false, cond, List, []}
 use Rattle.std.proofs.Common.{◌∷◌, ◌++◌, map, refl, ap, sym, subst, ◌∙◌, append-nil, Result, Ok, Err}
-use Rattle.std.specs.Prelude.{OnOk, ◌≤◌, ◌==◌, not}
+use Rattle.std.specs.Prelude.{OnOk, ◌≤◌, ◌==◌}
 use Rattle.std.proofs.lemmas.List.{length-append, length-map}
 use Rattle.cg_query.specs.Tree.{Question, Statement, asks}
 use Rattle.cg_syntax.specs.Naming.{Bindings, question_asked}
@@ -188,11 +188,3 @@ on_ok_both (Err e) p q f = tt
 pub on_ok_one : {T E P S : Type 0} (r : Result T E) → OnOk r P → (P → S) → OnOk r S
 on_ok_one (Ok x) p f = f p
 on_ok_one (Err e) p f = tt
-
-pub not_true : (b : Bool) → not b ≡ true → b ≡ false
-not_true true e = absurd cc
-not_true false e = refl
-
-pub not_false : (b : Bool) → not b ≡ false → b ≡ true
-not_false true e = refl
-not_false false e = absurd cc
