@@ -11,6 +11,7 @@ from command import ROOT
 
 IMPORT = re.compile(r"\s*(?:pub |ghost )*use Rattle\.(cg\w*)\.specs\.([\w.]+?)(?:\.\{([^}]*)\})?(?: as ([\w']+))?;?\s*$")
 HEAD = re.compile(r"\s*((?:(?:pub|abbrev|unfoldable|mutual|data|record) +)*)([\w◌][^\s:(){},;]*)(?= *[:({]| +where)")
+END = re.compile(r"\n *\{|\n\}")
 WORD = re.compile(r"[^\s(){},;λ]+")
 
 
@@ -82,12 +83,12 @@ def resolved(word, imports):
 
 
 def files_below(path, contract):
-    """The files that a contract rests on, where the contract is that of the function with this head in the file of code."""
+    """The files that a contract rests on: that of the function with this head in the file of code, or what an impl says."""
     with open(os.path.join(ROOT, path), encoding="utf-8") as file:
         text = file.read()
     imports, _ = parsed(text)
     start = text.index(contract)
-    words = words_of([text[start:text.index("\n{", start)]])
+    words = words_of([text[start:END.search(text, start).start()]])
     waiting = [use for word in words for use in resolved(word, imports)]
     specs, seen = {}, set()
     while waiting:

@@ -385,7 +385,17 @@ pub fn run<G>(game: G)
 {
 }
 """
-    LISTING = "| Files |\n|---|\n| cg_low specs/Games |\n"
+    USE = "ghost use Rattle.cg_low.specs.Rules.{Kept};\n\n"
+    SECOND = {
+        "crates/cg_cells/src/law_steps.rt": "pub fn steps<F>()\n    ensures { Unit {0} }\n{}\n",
+        "crates/cg_shared/src/plays.rt": USE + "impl<F: Facts> TableRule for Rule {\n    ghost holds = { Kept };\n}\n",
+        "crates/cg_shared/src/pass.rt": "impl Pass {\n    pub fn same(&self) -> bool\n    {\n        true\n    }\n}\n",
+        "crates/cg_canon/src/equality.rt": "pub fn equal<S>() -> bool\n{\n    true\n}\n",
+        "crates/cg_form/src/laws.rt": "pub fn l1()\n{}\n",
+        "crates/cg_low/specs/Rules.antt": "pub Kept : Type 0\nKept = Unit {0}\n",
+    }
+    """What the second half of the theorem is stated by."""
+    LISTING = "| Files |\n|---|\n| cg_low specs/ Games, Rules |\n"
     LINES = "| Files | Lines |\n|---|---|\n| cg_low specs/Games | {} |"
     BLOCK = "```rust crates/cg_low/src/sums.rt\npub enum Status {{\n    {}\n```"
     EDIT = "## Ten wrong bodies\n\n- an answer is less (cg_low `one_less`, `{}`)"
@@ -422,7 +432,7 @@ pub fn run<G>(game: G)
         pages = {f"docs/{name}.md": "cg_low\n" for name in ("DECISIONS", "DEVELOPING", "ADDING_A_GAME")}
         edit = "crates/cg_low/must-fail/one_less.edit"
         files = {"crates/cg_low/src/sums.rt": self.CODE, "crates/cg_low/specs/Games.antt": self.SPEC, edit: ""}
-        files["crates/cg_session/src/session.rt"] = self.TOP
+        files.update(self.SECOND, **{"crates/cg_session/src/session.rt": self.TOP})
         for name, content in {**pages, **files, "docs/PROOF.md": listing, "docs/CLAIMS.md": text}.items():
             path = os.path.join(top, name)
             os.makedirs(os.path.dirname(path), exist_ok=True)
@@ -448,8 +458,16 @@ pub fn run<G>(game: G)
         self.fails("there is no docs/PROOF.md", "check-claims", top=self.copied("crates/cg_dyadic"))
 
     def test_a_file_is_not_listed(self):
-        top = self.with_claims("cg_low\n", "cg_low specs/Games\n")
-        self.fails("docs/PROOF.md lists no crates/cg_low/specs/Games.antt, on which `run` rests", "check-claims", top=top)
+        for named, told in [("cg_low specs/Games\n", "Games.antt, on which `run` rests"),
+                            ("| cg_low specs/Games |\n", "Rules.antt, on which the rule `Kept` rests")]:
+            with self.subTest(named=named):
+                top = self.with_claims("cg_low\n", named)
+                self.fails(f"docs/PROOF.md lists no crates/cg_low/specs/{told}", "check-claims", top=top)
+
+    def test_a_part_of_the_theorem_is_not_there(self):
+        top = self.with_claims("cg_low\n")
+        os.remove(os.path.join(top, "crates", "cg_shared", "src", "plays.rt"))
+        self.fails("there is no crates/cg_shared/src/plays.rt", "check-claims", top=top)
 
     def test_lines_are_written(self):
         top = self.with_claims(self.LINES.format(6) + "\n")
