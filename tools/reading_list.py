@@ -9,6 +9,15 @@ import re
 
 from command import ROOT
 
+THEOREM = (
+    ("`run`", "crates/cg_session/src/session.rt", "pub fn run<"),
+    ("`law_steps::steps`", "crates/cg_cells/src/law_steps.rt", "pub fn steps<"),
+    ("the rule `Kept`", "crates/cg_shared/src/plays.rt", "impl<F: Facts> TableRule"),
+    ("`Pass::same`", "crates/cg_shared/src/pass.rt", "pub fn same("),
+    ("`cg_canon::equal`", "crates/cg_canon/src/equality.rt", "pub fn equal<"),
+    ("`l1`", "crates/cg_form/src/laws.rt", "pub fn l1("),
+)
+"""What states the theorem: each as docs/PROOF.md calls it, its file, and how its contract begins there."""
 IMPORT = re.compile(r"\s*(?:pub |ghost )*use Rattle\.(cg\w*)\.specs\.([\w.]+?)(?:\.\{([^}]*)\})?(?: as ([\w']+))?;?\s*$")
 HEAD = re.compile(r"\s*((?:(?:pub|abbrev|unfoldable|mutual|data|record) +)*)([\w◌][^\s:(){},;]*)(?= *[:({]| +where)")
 END = re.compile(r"\n *\{|\n\}")
