@@ -92,7 +92,8 @@ class Cache:
         import sqlite3
 
         if getattr(self._own, "process", None) != os.getpid():
-            _LEFT.append(getattr(self._own, "connection", None))
+            if hasattr(self._own, "connection"):
+                _LEFT.append(self._own.connection)
             connection = sqlite3.connect(self.path, timeout=10)
             connection.execute("PRAGMA journal_mode=WAL")
             connection.execute("PRAGMA synchronous=NORMAL")

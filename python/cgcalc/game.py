@@ -295,5 +295,5 @@ def _parts_of(made_of: Expression) -> tuple[Terms, Optional[Board], Answers]:
     if isinstance(made_of, Board):
         return ((False, made_of.expression),), made_of, Answers()
     text = text_of(made_of)
-    known: dict[Hashable, Any] = {"value": made_of} if isinstance(made_of, Value) else {}
-    return terms_of(text), read_board(text), Answers(known)
+    is_known = isinstance(made_of, Value) and made_of.is_told
+    return terms_of(text), read_board(text), Answers({"value": made_of} if is_known else {})

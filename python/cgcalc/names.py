@@ -13,10 +13,23 @@ PLAIN = re.compile(rf"({NUMBER})?(?:(\^+|v+)([0-9]*))?(\*[0-9]*)?")
 SWITCH = re.compile(rf"\+-({NUMBER})")
 TINY = re.compile(rf"(Tiny|Miny)\(({NUMBER})\)")
 TOKEN = re.compile(r"[{},|]|[^{},|]+")
+NAME = re.compile(r"(?:[-0-9/^v*+{}|,]|(?:Tiny|Miny)\([-0-9/]+\))+")
+"""What the names of canonical forms are made of."""
 MOST_BARS = 3
 MOST_DEPTH = 512
 
 Names = tuple[str, ...]
+
+
+def may_be_name(text: object) -> bool:
+    """Whether something may be the name of a canonical form, by the signs that it is made of.
+
+    >>> may_be_name("{2|Tiny(1)}"), may_be_name("{2|0"), may_be_name("g + 1"), may_be_name(2)
+    (True, False, False, False)
+    """
+    if not isinstance(text, str) or not NAME.fullmatch(text):
+        return False
+    return text.count("{") == text.count("}")
 
 
 @dataclass(frozen=True)
@@ -77,7 +90,7 @@ def options_of(name: str) -> tuple[Names, Names]:
         word, size = tiny.groups()
         return (("0",), (f"{{0|-{size}}}",)) if word == "Tiny" else ((f"{{{size}|0}}",), ("0",))
     if plain is None or plain.nim > MOST_DEPTH:
-        raise _no_name(name)
+        raise no_name(name)
     if plain.is_number:
         return _options_of_number(plain.number)
     if plain.ups == 0:
@@ -120,7 +133,7 @@ def _options_of_brace(name: str) -> tuple[Names, Names]:
             sides.append([])
         start = at + 1
     if len(sides) != 2 or depth != 0:
-        raise _no_name(name)
+        raise no_name(name)
     return tuple(sides[0]), tuple(sides[1])
 
 
@@ -149,7 +162,7 @@ def _birthday_of_plain(name: str) -> int:
     if tiny:
         return _birthday_of_number(Fraction(tiny[2])) + 2
     if plain is None:
-        raise _no_name(name)
+        raise no_name(name)
     born = _birthday_of_number(plain.number)
     return born + (abs(plain.ups) + 1 if plain.ups else plain.nim)
 
@@ -207,12 +220,13 @@ def _tokens(name: str) -> Iterator[str]:
         depth += {"{": 1, "}": -1}.get(token, 0)
         bars += {"|": 1, "}": -1}.get(token, 0)
         if depth < 0 or (depth == 0 and token in ",|"):
-            raise _no_name(name)
+            raise no_name(name)
         yield token
     if depth or bars or not name:
-        raise _no_name(name)
+        raise no_name(name)
 
 
-def _no_name(name: str) -> WrongCall:
-    shown = name if len(name) <= 60 else f"{name[:60]}.."
+def no_name(name: object) -> WrongCall:
+    """What is raised for what is no name of a canonical form."""
+    shown = f"{name[:60]}.." if isinstance(name, str) and len(name) > 60 else name
     return WrongCall(f"{shown!r} is no name of a value: take what Session.value answers")

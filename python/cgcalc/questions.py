@@ -47,6 +47,8 @@ def questions_of(
     asked = [templates] if isinstance(templates, str) else list(templates)
     if not asked or not all(isinstance(template, str) for template in asked):
         raise WrongCall("give a question, or several, as texts with {board} in them")
+    if fill is not None and not isinstance(fill, str):
+        raise WrongCall(f"fill is a text, such as '.' or 'xo', not {fill!r}")
     by_size = rows is not None or columns is not None
     if by_size == (boards is not None):
         raise WrongCall("give either rows and columns, or boards")

@@ -16,8 +16,6 @@ from cgcalc.thermographs import Corner, Thermograph
 from cgcalc.values import Value
 
 FAILED = "! failed "
-NAME = re.compile(r"(?:[-0-9/^v*+{}|,]|(?:Tiny|Miny)\([-0-9/]+\))+")
-"""What the names of canonical forms are made of."""
 
 
 class _Answer:
@@ -180,9 +178,7 @@ def read_reply(question: str, text: str) -> Reply:
 
 def read_value(text: str) -> Value:
     """The value that a name such as `{2|0}` tells."""
-    if not NAME.fullmatch(text) or text.count("{") != text.count("}"):
-        raise ValueError(text)
-    return Value(text)
+    return Value.told(text)
 
 
 def read_order(text: str) -> Order:

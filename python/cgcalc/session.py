@@ -77,7 +77,7 @@ class Session(TypedCalls):
         positions: int = POSITIONS,
         cells: int = CELLS,
         processes: Optional[int] = None,
-        program: Optional[str] = None,
+        program: Union[None, str, "os.PathLike[str]"] = None,
         timeout: Optional[float] = None,
         memory: Optional[int] = None,
         executor: Optional[Executor] = None,
@@ -95,7 +95,7 @@ class Session(TypedCalls):
         if executor is not None and not isinstance(executor, Executor):
             raise WrongCall("executor is one of concurrent.futures, or made like those")
         self.executor = executor
-        self.program = program or (find_program() if executor is None else None)
+        self.program = _program_of(program, executor)
         self.cache = cache_of(cache)
         if self.cache is not None and self.program is None:
             raise WrongCall("a cache has to know the program that the executor runs: name it")
@@ -276,6 +276,20 @@ class Session(TypedCalls):
             self.executor,
         )
         return Batch(lines, lambda some: needed_lines(names, some), limits, self.cache)
+
+
+def _program_of(given: object, executor: Optional[Executor]) -> Optional[str]:
+    """The program that a session runs; None where each of an executor's workers finds its own.
+
+    A relative path counts from the folder where the session is made; with an executor, from where
+    each worker runs.
+    """
+    if given is None:
+        return find_program() if executor is None else None
+    if not isinstance(given, (str, os.PathLike)):
+        raise WrongCall(f"program is the path of one, not {given!r}")
+    path = os.fsdecode(given)
+    return os.path.abspath(path) if executor is None and os.sep in path else path
 
 
 def _within(what: str, number: object, most: int) -> int:

@@ -195,7 +195,7 @@ def _by_options(game: Game, made: Made, needs: Sequence[str] = ()) -> Value:
         results = {name: _one(form, made, found, game) for name, form in forms.items()}
         game.session.fill(results.values(), "value")
         found.update((name, result.value.name) for name, result in results.items())
-    return Value(found[game.value.name])
+    return Value.told(found[game.value.name])
 
 
 def _one(form: Game, made: Made, found: dict[str, str], game: Game) -> Game:

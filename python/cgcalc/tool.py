@@ -23,7 +23,7 @@ class BadUse(WrongCall):
 
 
 class CommandLine(argparse.ArgumentParser):
-    """The words of a command: wrong ones are refused in one line, and no front stands for an option."""
+    """The words of a command. What is wrong is told in one line; no front stands for an option."""
 
     def __init__(self, **given: Any) -> None:
         super().__init__(allow_abbrev=False, **given)

@@ -3,11 +3,11 @@ from __future__ import annotations
 
 from dataclasses import dataclass
 from fractions import Fraction
-from typing import Optional
+from typing import ClassVar, Iterable, Optional
 
 from cgcalc.exact import exact_number
 from cgcalc.latex import latex_of
-from cgcalc.names import birthday_of, options_of, read_plain, with_bars
+from cgcalc.names import birthday_of, may_be_name, no_name, options_of, read_plain, with_bars
 from cgcalc.operands import Operand
 from cgcalc.tree_pictures import tree_picture
 
@@ -17,7 +17,8 @@ class Value(Operand):
     """A canonical form, by its name. Equal games have equal values.
 
     A value stands wherever a game can, and a sum with a value is a game. The options are those of
-    the canonical form, in the order of the program.
+    the canonical form, in the order of the program. A name of your own has to be as the program
+    writes it; `Game("{2,1|0}").value` finds that.
 
     >>> value = Value("{2|^*}")
     >>> value.left_options, value.right_options
@@ -27,6 +28,23 @@ class Value(Operand):
     """
 
     name: str
+    is_told: ClassVar[bool] = False
+    """Whether it is known that the program writes the name so."""
+
+    def __post_init__(self) -> None:
+        if not may_be_name(self.name):
+            raise no_name(self.name)
+
+    @classmethod
+    def told(cls, name: str) -> Value:
+        """The value whose name the program told."""
+        value = cls(name)
+        object.__setattr__(value, "is_told", True)
+        return value
+
+    def _all(self, names: Iterable[str]) -> tuple[Value, ...]:
+        """The values of names that are known as well as that of this one is."""
+        return tuple(map(Value.told if self.is_told else Value, names))
 
     @property
     def expression(self) -> str:
@@ -51,7 +69,7 @@ class Value(Operand):
         >>> Value("1/2*2").left_options
         (Value(name='1/2'), Value(name='1/2*'))
         """
-        return tuple(Value(name) for name in options_of(self.name)[0])
+        return self._all(options_of(self.name)[0])
 
     @property
     def right_options(self) -> tuple[Value, ...]:
@@ -60,7 +78,7 @@ class Value(Operand):
         >>> Value("^^").right_options, Value("2").right_options
         ((Value(name='^*'),), ())
         """
-        return tuple(Value(name) for name in options_of(self.name)[1])
+        return self._all(options_of(self.name)[1])
 
     @property
     def birthday(self) -> int:

@@ -119,6 +119,16 @@ class Browser:
         found: list[Any] = self.driver.find_elements("css selector", selector)
         return found
 
+    def attributes(self, selector: str, name: str) -> list[str]:
+        """An attribute of all that a selector finds, read at once: the page may draw them anew."""
+        found: list[str] = self.script(
+            "return [...document.querySelectorAll(arguments[0])]"
+            ".map((one) => one.getAttribute(arguments[1]))",
+            selector,
+            name,
+        )
+        return found
+
     def one(self, selector: str) -> Any:
         """The element of a selector, as soon as there is one that is shown."""
         found: list[Any] = []
@@ -214,7 +224,7 @@ class Browser:
 def moves_of(browser: Browser, player: str) -> Sequence[str]:
     """The names of the moves that are shown for a player."""
     side = {"L": "left", "R": "right"}[player]
-    return [str(one.get_attribute("data-move")) for one in browser.all(f"#{side}-moves .move")]
+    return browser.attributes(f"#{side}-moves .move", "data-move")
 
 
 def children_of(process: int) -> list[int]:

@@ -316,6 +316,7 @@ class Further(unittest.TestCase):
             {},
             {"boards": "1"},
             {"rows": [-1]},
+            {"rows": 1, "fill": 3},
         ]:
             with self.subTest(words=words), self.assertRaises(WrongCall):
                 session.table("value {rows}", **words)  # type: ignore[arg-type]

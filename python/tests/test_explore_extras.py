@@ -90,7 +90,7 @@ class Extras(PageCase):
                 session.bind(definition)
         self.browser.value_is(str(session.value("column + top + snake + hall + corner")))
         hot = self.browser.all(".move .hot")
-        parts = {str(one.get_attribute("data-part")) for one in self.browser.all(".move:has(.hot)")}
+        parts = set(self.browser.attributes(".move:has(.hot)", "data-part"))
         self.assertTrue(hot)
         self.assertEqual(parts, {"3"})  # the hall
 

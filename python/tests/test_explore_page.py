@@ -80,7 +80,7 @@ class Page(PageCase):
         self.browser.value_is(whole)
         self.browser.click("button[aria-label='Remove part 3']")
         self.browser.value_is(str(Session().value(" + ".join(TWO_ROOMS))))
-        labels = [str(one.get_attribute("aria-label")) for one in self.browser.all(".move")]
+        labels = self.browser.attributes(".move", "aria-label")
         self.assertTrue(all("; then " not in label or "in part" in label for label in labels))
         self.assertTrue(
             any(

@@ -7,7 +7,9 @@ import subprocess
 import sys
 import tempfile
 import unittest
+from concurrent.futures import ThreadPoolExecutor
 from pathlib import Path
+from typing import Union
 from unittest import mock
 
 from cgcalc import (
@@ -17,6 +19,7 @@ from cgcalc import (
     ProgramMissing,
     Reply,
     Session,
+    WrongCall,
     find_program,
 )
 from cgcalc.version import RECORD, checksum, version_text
@@ -81,6 +84,18 @@ class FindProgram(unittest.TestCase):
             check=True,
         )
         self.assertEqual(done.stdout.decode(), f"{named}\n")
+
+    def test_a_session_keeps_its_program(self) -> None:
+        named = self.made("near", "it")
+        ways: list[Union[str, Path]] = ["near/it", Path("near", "it"), named]
+        for given in ways:
+            self.assertEqual(Session(program=given).program, named)
+        self.assertEqual(Session(program="it").program, "it")
+        with self.assertRaisesRegex(WrongCall, "program is the path of one, not 3"):
+            Session(program=3)  # type: ignore[arg-type]
+        with ThreadPoolExecutor() as executor:
+            session = Session(program="near/it", executor=executor)
+        self.assertEqual(session.program, "near/it")
 
     def test_a_relative_folder_of_the_path(self) -> None:
         made = self.made("bin", "cg")

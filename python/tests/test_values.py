@@ -1,6 +1,7 @@
 """Values: options, birthdays and other notations of canonical forms, beside the program."""
 from __future__ import annotations
 
+import pickle
 import unittest
 from fractions import Fraction
 from functools import lru_cache
@@ -157,7 +158,7 @@ class AsObjects(unittest.TestCase):
 
     def test_numbers(self) -> None:
         self.assertEqual(Value("-7/8").number, Fraction(-7, 8))
-        for name in ("^", "{2|0}", "+-1", "1/2*", "", "x", "1/0"):
+        for name in ("^", "{2|0}", "+-1", "1/2*", "1/0"):
             self.assertIsNone(Value(name).number, name)
 
     def test_texts_that_are_no_names(self) -> None:
@@ -179,3 +180,15 @@ class AsObjects(unittest.TestCase):
                 WrongCall, "is no name of a value"
             ):
                 self.assertIsNotNone((Value(name).birthday, options_of(name)))
+        for text in ("", "x", "{1|", "1 + 1", "g", 3, None):
+            with self.subTest(text=text):
+                self.assertRaisesRegex(WrongCall, "is no name of a value", Value, text)
+
+    def test_a_name_of_your_own_is_asked(self) -> None:
+        written = Value("{2,1|0}")
+        self.assertEqual((written.is_told, Game(written).value.name), (False, "{2|0}"))
+        told = Game("{2,1|0}").value
+        kept = pickle.loads(pickle.dumps(told))
+        for value in (told, kept, *told.left_options, *kept.right_options):
+            self.assertTrue(value.is_told and Game(value).knows("value"))
+        self.assertEqual(repr(told), "Value(name='{2|0}')")
