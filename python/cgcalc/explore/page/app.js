@@ -13,7 +13,9 @@ import { fraction, written } from './written.js';
 import { changed, element, go, html, look, now, parts, show, state, toast, when } from './state.js';
 
 const SLOW = 180;
+const LIST = 350;
 let round = 0;
+let listing = null;
 let slow = null;
 let began = 0;
 
@@ -25,13 +27,17 @@ async function compute() {
   const mine = round += 1;
   await stopAll();
   clearTimeout(slow);
+  clearTimeout(listing);
+  listing = setTimeout(listMoves, LIST);
   began = Date.now();
   slow = setTimeout(() => running(true), SLOW);
   const data = { parts: now().parts };
   const take = (word, key) => ask(word, data, state.effort).then((told) => {
     if (mine !== round) return false;
-    if (told.stopped) state.problem = told;
-    else state[key] = word === 'reasons' ? told.reasons : told;
+    if (told.stopped) {
+      state.problem = told;
+      if (!state.moves) listMoves();
+    } else state[key] = word === 'reasons' ? told.reasons : told;
     changed('answer');
     return !told.stopped;
   });
@@ -46,6 +52,17 @@ async function compute() {
     }
   }
   if (mine === round) running(false);
+}
+
+// Where answers take long the moves are shown before.
+function listMoves() {
+  const mine = round;
+  if (state.moves || state.listed) return;
+  tell('list', { parts: now().parts }).then((told) => {
+    if (mine !== round || state.moves) return;
+    state.listed = told.moves;
+    changed('answer');
+  }).catch(() => null);
 }
 
 function running(on) {

@@ -3,7 +3,7 @@ import { GAMES, NAMES, cellName, cellsOf, readPart, rowsOf, startOf, symbolsOf, 
 import { make, symbolDrawn } from './draw.js';
 import { graphCard } from './graphs.js';
 import { fraction, written } from './written.js';
-import { element, html, look, makeMove, now, parts, setPart, show, state, toast } from './state.js';
+import { element, html, look, makeMove, movesOf, now, parts, setPart, show, state, toast } from './state.js';
 
 const ORDERED = ['Clobber', 'Amazons', 'Toads'];
 let stroke = 0;
@@ -45,7 +45,7 @@ export function brushOf(part) {
 // The moves that fit what is picked on a part.
 export function fitting(at, cells) {
   const part = parts()[at];
-  const mine = (state.moves?.moves[state.mode] || []).filter((move) => move.part === at);
+  const mine = movesOf(state.mode).filter((move) => move.part === at);
   return mine.filter((move) => {
     const way = cellsOf(part, move.name);
     return ORDERED.includes(part.game) ? cells.every((cell, k) => way[k] === cell) : cells.every((cell) => way.includes(cell));
@@ -61,7 +61,7 @@ function pick(at, cell) {
   const whole = moves.filter((move) => cellsOf(part, move.name).length === cells.length);
   if (!moves.length) {
     look({ picked: null });
-    if (state.moves) toast(`${NAMES[state.mode]} has no move from ${cell}.`);
+    if (state.moves || state.listed) toast(`${NAMES[state.mode]} has no move from ${cell}.`);
   } else if (moves.length === 1 && (part.game !== 'Amazons' && part.game !== 'Clobber')) makeMove({ ...moves[0], player: state.mode });
   else if (whole.length === 1) makeMove({ ...whole[0], player: state.mode });
   else look({ picked: { part: at, cells } });

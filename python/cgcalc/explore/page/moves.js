@@ -2,20 +2,20 @@
 import { NAMES, cellsOf, readPart } from './games.js';
 import { picture } from './draw.js';
 import { escaped, fraction, written } from './written.js';
-import { element, html, makeMove, now, state } from './state.js';
+import { element, html, makeMove, movesOf, now, state } from './state.js';
 
 const FIRST = 40;
 const THEN = { L: 'then Left wins, whoever moves', R: 'then Right wins, whoever moves', N: 'then whoever moves next wins', P: 'then whoever moves next loses' };
 const opened = { L: false, R: false };
 
 export function drawMoves() {
-  if (!state.moves) {
+  if (!state.moves && !state.listed) {
     for (const list of ['left-moves', 'right-moves']) document.getElementById(list).classList.add('old');
     return;
   }
   drawSide('L', document.getElementById('left-moves'), document.getElementById('left-title'));
   drawSide('R', document.getElementById('right-moves'), document.getElementById('right-title'));
-  document.getElementById('checked').textContent = checkedWords(state.moves.checks);
+  document.getElementById('checked').textContent = state.moves ? checkedWords(state.moves.checks) : waitingWords();
 }
 
 function checkedWords(checks) {
@@ -26,13 +26,17 @@ function checkedWords(checks) {
   return 'Checked: the program confirms that the position equals the brace of these moves.';
 }
 
+function waitingWords() {
+  return state.problem ? 'What these moves are worth isn’t known.' : 'What these moves are worth isn’t known yet.';
+}
+
 function drawSide(player, list, title) {
-  const moves = state.moves.moves[player];
+  const moves = movesOf(player);
   list.classList.remove('old');
   title.textContent = `${NAMES[player]}’s moves${moves.length ? ` (${moves.length})` : ''}`;
   const many = opened[player] ? moves : moves.slice(0, FIRST);
   const items = many.map((move) => element('li', {}, moveButton(player, move)));
-  if (!moves.length) items.push(element('li', { class: 'none' }, `${NAMES[player]} has no move.`));
+  if (!moves.length && state.moves) items.push(element('li', { class: 'none' }, `${NAMES[player]} has no move.`));
   if (many.length < moves.length) {
     const all = () => { opened[player] = true; drawMoves(); };
     items.push(element('li', { class: 'rest' }, element('button', { onclick: all }, `Show all ${moves.length}`)));
@@ -75,14 +79,14 @@ function cellsIn(part, name) {
 }
 
 function valueShown(move) {
-  if (!move.value) return element('span', { class: 'line quiet' }, 'not asked');
+  if (!move.value) return element('span', { class: 'line quiet' }, state.moves ? 'not asked' : state.problem ? 'not known' : '…');
   if (move.value.refused) return element('span', { class: 'line refused', title: move.value.sentence }, move.value.refused);
   const heat = move.temperature === null || move.temperature === undefined ? '' : `<span class="heat" title="temperature">t ${fraction(move.temperature)}</span>`;
   return html('span', { class: 'line' }, `${written(move.value.shown)} ${heat}`);
 }
 
 function valueWords(move) {
-  if (!move.value) return 'value not asked';
+  if (!move.value) return state.moves ? 'value not asked' : 'value not known';
   if (move.value.refused) return `no value: ${move.value.sentence}`;
   return `leaves ${move.value.name}, temperature ${move.temperature}, ${THEN[move.winner] || ''}`;
 }

@@ -44,7 +44,7 @@ function during(game) {
 
 function statusWords(game, mine) {
   if (game.over) return `${NAMES[game.turn]} can’t move: ${mine ? 'the computer wins.' : 'you win.'}`;
-  if (!state.moves) return 'Computing';
+  if (!state.moves && !(mine && state.listed)) return 'Computing';
   return mine ? `Your move, ${NAMES[game.person]}.` : `The computer moves as ${NAMES[game.turn]}.`;
 }
 

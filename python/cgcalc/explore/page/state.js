@@ -3,17 +3,36 @@ import { readPart, textOf } from './games.js';
 
 export const state = {
   history: [], at: -1, mode: 'draw', brush: '', picked: null, effort: 0,
-  answer: null, moves: null, reasons: null, problem: null, game: null,
+  answer: null, listed: null, moves: null, reasons: null, problem: null, game: null,
 };
 const heard = { position: [], answer: [], view: [] };
+
+// The moves of a player as far as they are known: with what they are worth, or listed before that.
+export function movesOf(player) {
+  return (state.moves?.moves || state.listed)?.[player] || [];
+}
 
 export function when(what, call) {
   heard[what].push(call);
 }
 
 export function changed(what) {
-  for (const call of heard[what]) call();
+  if (what === 'answer' && pressed) late = true;
+  else for (const call of heard[what]) call();
 }
+
+// What is drawn anew under a pressed pointer gets no click: answers wait until it is released.
+let pressed = false;
+let late = false;
+
+function release() {
+  pressed = false;
+  if (late) changed('answer');
+  late = false;
+}
+
+document.addEventListener('pointerdown', () => { pressed = true; }, true);
+for (const end of ['pointerup', 'pointercancel']) document.addEventListener(end, () => setTimeout(release), true);
 
 export function now() {
   return state.history[state.at];
@@ -49,7 +68,7 @@ export function go(at) {
 }
 
 function refresh() {
-  Object.assign(state, { answer: null, moves: null, reasons: null, problem: null, picked: null, effort: 0 });
+  Object.assign(state, { answer: null, listed: null, moves: null, reasons: null, problem: null, picked: null, effort: 0 });
   changed('position');
 }
 
