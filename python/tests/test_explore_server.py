@@ -1,13 +1,13 @@
 """The explorer's server: what it answers, and what it does with broken requests."""
 from __future__ import annotations
 
+import os
 import re
 import signal
 import socket
 import subprocess
 import tempfile
 import threading
-import time
 import unittest
 from pathlib import Path
 from typing import Any, ClassVar
@@ -16,7 +16,12 @@ from cgcalc import Session
 from tests.explorer import Server, children_of
 from tests.places import ROOT, command, ended, environment, program, run, waits
 
-FORTY_MOVES = 'Clobber("xoxo|oxox|xoxo|....")'
+EMPTY = 'Domineering("....|....|....|....")'
+FORTY_MOVES = (
+    (EMPTY, 'Domineering("...|...|...|...")'),
+    ('Amazons("x..|...|..o")',),
+    ('Domineering("....#|.....|.....|.....")', "^"),
+)
 
 
 class Answers(unittest.TestCase):
@@ -41,9 +46,9 @@ class Answers(unittest.TestCase):
         self.assertEqual(told["parts"][2]["value"]["name"], "*")
 
     def test_the_moves_of_a_sum(self) -> None:
-        parts = ['Domineering("...|...")', "{2||1|0}", 'Octal("0.7",3)', 'Hackenbush("0b1")']
+        parts = ['Domineering("...|...")', "{2||1|0}", 'Octal("0.7",3)', 'Hackenbush("0b1")', "0"]
         told, session = self.server.ask("moves", parts=parts), Session()
-        self.assertEqual(told["checks"], ["equal"] * 4)
+        self.assertEqual(told["checks"], ["equal"] * 5)
         for player in ("L", "R"):
             for move in told["moves"][player]:
                 after = " + ".join(move["after"]) or "0"
@@ -101,12 +106,68 @@ class Answers(unittest.TestCase):
         self.assertGreater(len(moves["moves"]["L"]), 50)
         self.assertEqual(moves["checks"], ["unchecked"])
 
-    def test_forty_moves_come_soon(self) -> None:
-        began = time.monotonic()
-        told = self.server.ask("moves", parts=[FORTY_MOVES])
-        seconds = time.monotonic() - began
-        self.assertGreaterEqual(sum(map(len, told["moves"].values())), 34)
-        self.assertLess(seconds, 20)
+    def test_moves_are_listed_at_once(self) -> None:
+        parts = ['Clobber("xo|ox")', "{2|-1}", '-Domineering("...|...")', 'Toads("x")']
+        listed = self.server.ask("list", parts=parts)["moves"]
+        told = self.server.ask("moves", parts=parts[:3])["moves"]
+        for player in ("L", "R"):
+            names = [(one["part"], one["name"], one["leaves"]) for one in listed[player]]
+            wanted = [(one["part"], one["name"], one["leaves"]) for one in told[player]]
+            self.assertEqual(names, [one for one in wanted if one[0] != 1])
+
+
+class Speed(unittest.TestCase):
+    """What questions cost. The processor's seconds are counted, since the machine may be busy."""
+
+    def test_forty_moves(self) -> None:
+        for parts in FORTY_MOVES:
+            server = Server()
+            self.addCleanup(server.end)
+            before = seconds_of(server.process.pid)
+            self.assertTrue(server.ask("position", parts=parts)["value"]["name"])
+            told = server.ask("moves", parts=parts)
+            moves = [move for player in "LR" for move in told["moves"][player]]
+            self.assertGreaterEqual(len(moves), 30)
+            self.assertTrue(all("name" in move["value"] for move in moves))
+            self.assertEqual(set(told["checks"]), {"equal"})
+            self.assertLess(seconds_of(server.process.pid) - before, 2.0, parts)
+
+    def test_a_board_takes_few_runs_and_a_kept_answer_none(self) -> None:
+        with tempfile.TemporaryDirectory() as folder:
+            noted = Path(folder) / "runs"
+            counting = program(Path(folder), f'echo run >> {noted}\nexec "$REAL" "$@"')
+            server = Server("--share", "30000", changes={"CG": counting})
+            self.addCleanup(server.end)
+            for parts in ([EMPTY], ["{2|-1}"]):
+                server.ask("position", parts=parts)
+                told = server.ask("moves", parts=parts)
+                server.ask("reasons", parts=parts)
+                runs = len(noted.read_text().split())
+                for word in ("position", "moves", "reasons"):
+                    server.ask(word, parts=parts)
+                self.assertEqual(len(noted.read_text().split()), runs)
+                self.assertLess(runs, 40)
+                self.assertTrue(told["moves"]["L"])
+
+    def test_moves_of_a_board_that_lacks_cells(self) -> None:
+        server = Server("--share", "30000")
+        self.addCleanup(server.end)
+        self.assertEqual(server.ask("position", parts=[EMPTY])["parts"][0]["value"]["kind"], "full")
+        told, session = server.ask("moves", parts=[EMPTY]), Session()
+        self.assertEqual(told["checks"], ["unchecked"])
+        for player in ("L", "R"):
+            self.assertEqual(len(told["moves"][player]), 12)
+            for move in told["moves"][player]:
+                self.assertEqual(move["value"]["name"], str(session.value(move["leaves"][0])))
+                self.assertEqual(move["winner"], session.outcome(move["leaves"][0]))
+        told = server.ask("moves", parts=[EMPTY, "^"])
+        self.assertEqual({move["winner"] for move in told["moves"]["L"]}, {None, "L", "N"})
+
+
+def seconds_of(process: int) -> float:
+    """The processor's seconds that a process and those that it started took."""
+    fields = Path(f"/proc/{process}/stat").read_text().rpartition(")")[2].split()
+    return sum(map(int, fields[11:15])) / os.sysconf("SC_CLK_TCK")
 
 
 def run_program(session: str) -> tuple[int, str, str]:

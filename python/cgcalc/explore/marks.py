@@ -53,7 +53,7 @@ class Lists:
         }
         self.sums = self._sums(moves, asking)
         sums = list(dict.fromkeys(self.sums.values()))
-        parts = [name for name, value in zip(shown.names, shown.values) if form_of(value)]
+        parts = [name for name, fine in zip(shown.names, shown.have_values) if fine]
         hot = list(dict.fromkeys([*parts, *self.names.values()])) if moves else []
         lines = [f"{word} {text}" for word in ("outcome", "stops") for text in sums]
         replies = asking.ask([*lines, *(f"thermo {text}" for text in hot), *checks])
@@ -75,12 +75,9 @@ class Lists:
 
     def _rests(self, asking: Asking) -> list[Optional[str]]:
         """For each part the other parts, added up, or None where one of them has no value."""
-        values = self.shown.values
-        known = [
-            all(form_of(value) for other, value in enumerate(values) if other != part)
-            for part in range(len(values))
-        ]
-        rests = [self.shown.rest(part) for part in range(len(values))]
+        have = self.shown.have_values
+        known = [all(have[:part] + have[part + 1 :]) for part in range(len(have))]
+        rests = [self.shown.rest(part) for part in range(len(have))]
         lines = [f"value {rest}" for rest, fine in zip(rests, known) if fine and rest != "0"]
         replies = dict(zip(lines, asking.ask(lines)))
         return [

@@ -71,9 +71,14 @@ class Shown:
         return sum_of(self.names)
 
     @property
+    def have_values(self) -> list[bool]:
+        """Whether the parts have values."""
+        return [form_of(reply) is not None for reply in self.values]
+
+    @property
     def is_bad(self) -> bool:
         """Whether a part is refused."""
-        return any(isinstance(reply, (Refusal, Failed)) for reply in self.values)
+        return not all(self.have_values)
 
     @property
     def is_worth_asking(self) -> bool:

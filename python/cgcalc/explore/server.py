@@ -10,7 +10,7 @@ from werkzeug.exceptions import HTTPException
 
 from cgcalc.explore.access import Access
 from cgcalc.explore.asking import MOST_EFFORT, Asking, Busy, Desk, Stopped
-from cgcalc.explore.moves import moves_told, reasons_told
+from cgcalc.explore.moves import listed, moves_told, reasons_told
 from cgcalc.explore.positions import BadRequest, position_told, read_position
 from cgcalc.explore.told import Told, advice_on
 from cgcalc.explore.worksheet import answered, completions, read_lines
@@ -56,6 +56,7 @@ class Site:
         }
         for name, answer in asked.items():
             add(f"/ask/{name}", name, self.asker(answer), methods=["POST"])
+        add("/ask/list", "list", self.list, methods=["POST"])
         add("/ask/complete", "complete", self.complete, methods=["POST"])
         add("/ask/stop", "stop", self.stop, methods=["POST"])
         add("/ask/keep", "keep", self.keep, methods=["POST"])
@@ -124,6 +125,10 @@ class Site:
                 self.desk.end(name)
 
         return asked
+
+    def list(self) -> Response:
+        """The moves on boards, without what the program says of them."""
+        return as_json(listed(read_position(read_body().get("parts"))))
 
     def complete(self) -> Response:
         """The words that the line of a worksheet may end with."""

@@ -10,10 +10,13 @@ import { copy, address, drawSave, fragment, positionOf } from './save.js';
 import { drawSheet, openSheet } from './sheet.js';
 import { picture } from './draw.js';
 import { fraction, written } from './written.js';
-import { changed, element, go, html, look, now, parts, show, state, toast, when } from './state.js';
+import { changed, element, go, html, look, now, parts, renew, show, state, toast, when, wish } from './state.js';
 
+const FILTERS = { all: 'all moves', each: 'one of each value', canonical: 'canonical', wins: 'winning' };
 const SLOW = 180;
+const LIST = 350;
 let round = 0;
+let listing = null;
 let slow = null;
 let began = 0;
 
@@ -25,13 +28,17 @@ async function compute() {
   const mine = round += 1;
   await stopAll();
   clearTimeout(slow);
+  clearTimeout(listing);
+  listing = setTimeout(listMoves, LIST);
   began = Date.now();
   slow = setTimeout(() => running(true), SLOW);
   const data = { parts: now().parts };
   const take = (word, key) => ask(word, data, state.effort).then((told) => {
     if (mine !== round) return false;
-    if (told.stopped) state.problem = told;
-    else state[key] = word === 'reasons' ? told.reasons : told;
+    if (told.stopped) {
+      state.problem = told;
+      if (!state.moves) listMoves();
+    } else state[key] = word === 'reasons' ? told.reasons : told;
     changed('answer');
     return !told.stopped;
   });
@@ -46,6 +53,17 @@ async function compute() {
     }
   }
   if (mine === round) running(false);
+}
+
+// Where answers take long the moves are shown before.
+function listMoves() {
+  const mine = round;
+  if (state.moves || state.listed) return;
+  tell('list', { parts: now().parts }).then((told) => {
+    if (mine !== round || state.moves) return;
+    state.listed = told.moves;
+    changed('answer');
+  }).catch(() => null);
 }
 
 function running(on) {
@@ -128,14 +146,14 @@ function segments(holder, legend, choices, chosen, choose) {
     const input = element('input', { type: 'radio', name: holder.id, value, checked: value === chosen, 'data-focus': `${holder.id}:${value}`, onchange: () => choose(value) });
     return element('label', {}, input, element('span', {}, word));
   });
-  const focus = document.activeElement?.getAttribute('data-focus');
-  holder.replaceChildren(element('legend', {}, legend), ...labels);
+  renew(holder, element('legend', {}, legend), ...labels);
   holder.hidden = !labels.length;
-  if (focus) holder.querySelector(`[data-focus="${CSS.escape(focus)}"]`)?.focus();
 }
 
 function drawTools() {
   const modes = state.game ? { [state.mode]: `moves for ${NAMES[state.mode]}` } : { draw: 'draws', L: 'moves Left', R: 'moves Right' };
+  by('turns').hidden = state.mode === 'draw' || Boolean(state.game);
+  segments(by('filter'), 'Show', FILTERS, wish.filter, (filter) => { wish.filter = filter; drawMoves(); });
   segments(by('mode'), 'A click', modes, state.mode, (mode) => look({ mode, picked: null }));
   const known = parts().filter((part) => part.game && part.game !== 'Octal');
   const drawn = state.mode === 'draw' ? known[0] : null;
@@ -168,7 +186,7 @@ function drawPath() {
     const drawn = entry.parts.map((text, part) => picture(text, { places: entry.places[part] }) || html('span', { class: 'form' }, written(text)));
     items.push(element('li', { class: entry.move ? entry.move.player : '' }, element('button', { 'aria-current': k === state.at ? 'step' : null, 'aria-label': `Go to: ${label}`, onclick: () => go(k) }, element('span', { class: 'boards' }, ...drawn), element('span', { class: 'name' }, label))));
   }
-  by('path').replaceChildren(...items);
+  renew(by('path'), ...items);
   by('path').hidden = !items.length;
   by('path').scrollLeft = by('path').scrollWidth;
   by('undo').disabled = state.at <= 0;
@@ -243,6 +261,8 @@ document.addEventListener('keydown', (event) => {
   else return;
   event.preventDefault();
 });
+by('best').firstElementChild.addEventListener('change', (event) => { wish.best = event.target.checked; drawMoves(); });
+by('turns').firstElementChild.addEventListener('change', (event) => { wish.turns = event.target.checked; });
 by('play').addEventListener('toggle', drawPlay);
 by('sheet').addEventListener('toggle', () => { if (by('sheet').open) openSheet(); });
 by('save').addEventListener('toggle', () => { if (by('save').open) drawSave(); });

@@ -3,7 +3,7 @@ import { GAMES, NAMES, cellName, cellsOf, readPart, rowsOf, startOf, symbolsOf, 
 import { make, symbolDrawn } from './draw.js';
 import { graphCard } from './graphs.js';
 import { fraction, written } from './written.js';
-import { element, html, look, makeMove, now, parts, setPart, show, state, toast } from './state.js';
+import { element, html, look, makeMove, movesOf, now, parts, renew, setPart, show, state, toast } from './state.js';
 
 const ORDERED = ['Clobber', 'Amazons', 'Toads'];
 let stroke = 0;
@@ -45,7 +45,7 @@ export function brushOf(part) {
 // The moves that fit what is picked on a part.
 export function fitting(at, cells) {
   const part = parts()[at];
-  const mine = (state.moves?.moves[state.mode] || []).filter((move) => move.part === at);
+  const mine = movesOf(state.mode).filter((move) => move.part === at);
   return mine.filter((move) => {
     const way = cellsOf(part, move.name);
     return ORDERED.includes(part.game) ? cells.every((cell, k) => way[k] === cell) : cells.every((cell) => way.includes(cell));
@@ -61,7 +61,7 @@ function pick(at, cell) {
   const whole = moves.filter((move) => cellsOf(part, move.name).length === cells.length);
   if (!moves.length) {
     look({ picked: null });
-    if (state.moves) toast(`${NAMES[state.mode]} has no move from ${cell}.`);
+    if (state.moves || state.listed) toast(`${NAMES[state.mode]} has no move from ${cell}.`);
   } else if (moves.length === 1 && (part.game !== 'Amazons' && part.game !== 'Clobber')) makeMove({ ...moves[0], player: state.mode });
   else if (whole.length === 1) makeMove({ ...whole[0], player: state.mode });
   else look({ picked: { part: at, cells } });
@@ -146,14 +146,14 @@ function sizes(at, part) {
   const rows = rowsOf(part);
   const columns = rows[0].length;
   const size = (word, count, change) => element('span', { class: 'size' }, `${word} `,
-    element('button', { 'aria-label': `One ${word.slice(0, -1).toLowerCase()} fewer`, disabled: count <= 1, onclick: () => change(-1) }, '\u2212'),
+    element('button', { 'data-focus': `${at}:fewer ${word}`, 'aria-label': `One ${word.slice(0, -1).toLowerCase()} fewer`, disabled: count <= 1, onclick: () => change(-1) }, '\u2212'),
     element('b', {}, String(count)),
-    element('button', { 'aria-label': `One ${word.slice(0, -1).toLowerCase()} more`, disabled: more(word, rows.length, columns) > 64, onclick: () => change(1) }, '+'));
+    element('button', { 'data-focus': `${at}:more ${word}`, 'aria-label': `One ${word.slice(0, -1).toLowerCase()} more`, disabled: more(word, rows.length, columns) > 64, onclick: () => change(1) }, '+'));
   const line = GAMES[part.game].kind === 'row';
   return element('div', { class: 'sizes' },
     line ? null : size('Rows', rows.length, (by) => setPart(at, resized(part, rows.length + by, columns))),
     size(line ? 'Cells' : 'Columns', columns, (by) => setPart(at, resized(part, rows.length, columns + by))),
-    element('button', { onclick: () => setPart(at, resized(withRows(part, ['']), rows.length, columns)) }, 'Clear'));
+    element('button', { 'data-focus': `${at}:clear`, onclick: () => setPart(at, resized(withRows(part, ['']), rows.length, columns)) }, 'Clear'));
 }
 
 function more(word, rows, columns) {
@@ -213,8 +213,8 @@ function card(at, part) {
   const kind = part.game ? GAMES[part.game].kind : 'form';
   const head = element('div', { class: 'head' },
     element('h2', {}, `${many ? `${at + 1}. ` : ''}${part.minus ? 'Negative of ' : ''}${part.game || 'A game'}`),
-    part.game && !state.game ? element('button', { title: 'Replace this part by its negative', 'aria-label': `Negative of part ${at + 1}`, onclick: () => setPart(at, { ...part, minus: !part.minus }) }, '±') : null,
-    many && !state.game ? element('button', { title: 'Remove this part', 'aria-label': `Remove part ${at + 1}`, onclick: () => remove(at) }, '×') : null);
+    part.game && !state.game ? element('button', { 'data-focus': `${at}:negative`, title: 'Replace this part by its negative', 'aria-label': `Negative of part ${at + 1}`, onclick: () => setPart(at, { ...part, minus: !part.minus }) }, '±') : null,
+    many && !state.game ? element('button', { 'data-focus': `${at}:part`, title: 'Remove this part', 'aria-label': `Remove part ${at + 1}`, onclick: () => remove(at) }, '×') : null);
   const bodies = { grid: gridCard, row: gridCard, drawing: graphCard, graph: graphCard, heap: heapCard };
   const body = bodies[kind] ? bodies[kind](at, part) : html('p', { class: 'form' }, written(part.text));
   const drawn = state.mode === 'draw' && (kind === 'grid' || kind === 'row') ? sizes(at, part) : null;
@@ -227,11 +227,9 @@ function remove(at) {
   show(texts.filter((_, k) => k !== at), { places: places.filter((_, k) => k !== at) });
 }
 
-// Draws all parts anew, and leaves the focus where it was.
+// Draws all parts anew.
 export function drawParts() {
   markPlace();
-  const holder = document.getElementById('parts');
-  const focus = document.activeElement?.getAttribute('data-focus');
   const cards = parts().map((part, at) => {
     try {
       return card(at, part);
@@ -240,8 +238,8 @@ export function drawParts() {
     }
   });
   if (!cards.length) cards.push(element('p', { class: 'quiet' }, 'Nothing is left: the position is 0.'));
-  holder.replaceChildren(...cards.flatMap((one, at) => (at ? [element('span', { class: 'plus', 'aria-hidden': 'true' }, '+'), one] : [one])));
-  if (focus) holder.querySelector(`[data-focus="${CSS.escape(focus)}"]`)?.focus();
+  const plus = () => element('span', { class: 'plus', 'aria-hidden': 'true' }, '+');
+  renew(document.getElementById('parts'), ...cards.flatMap((one, at) => (at ? [plus(), one] : [one])));
 }
 
 // Finds the cell at which a board was refused.

@@ -3,7 +3,7 @@ import { NODES, VERTICES, symbolsOf } from './games.js';
 import { EDGE_KINDS, edgePaths, make, sizeOf, vertexDrawn } from './draw.js';
 import { drawingPlaces, edgesOf, graphPlaces } from './places.js';
 import { Sketch } from './sketch.js';
-import { element, now, state, toast } from './state.js';
+import { element, movesOf, now, state, toast } from './state.js';
 
 const WORDS = { b: 'blue', r: 'red', g: 'green' };
 
@@ -167,7 +167,7 @@ class Graph extends Sketch {
   vertex(name, symbol) {
     const picked = state.picked?.part === this.at && state.picked.node === name;
     const group = make('g', { class: picked ? 'picked' : '' }, ...vertexDrawn(name, symbol, this.places[name]));
-    const can = (state.moves?.moves[state.mode] || []).some((move) => move.part === this.at && move.name === name);
+    const can = movesOf(state.mode).some((move) => move.part === this.at && move.name === name);
     if (can) group.classList.add('can');
     group.addEventListener('pointerdown', () => this.grab(name));
     const word = symbolsOf(this.part)[symbol];

@@ -2,20 +2,20 @@
 import { NAMES, cellsOf, readPart } from './games.js';
 import { picture } from './draw.js';
 import { escaped, fraction, written } from './written.js';
-import { element, html, makeMove, now, state } from './state.js';
+import { element, html, makeMove, movesOf, now, renew, state, wish } from './state.js';
 
 const FIRST = 40;
 const THEN = { L: 'then Left wins, whoever moves', R: 'then Right wins, whoever moves', N: 'then whoever moves next wins', P: 'then whoever moves next loses' };
 const opened = { L: false, R: false };
 
 export function drawMoves() {
-  if (!state.moves) {
+  if (!state.moves && !state.listed) {
     for (const list of ['left-moves', 'right-moves']) document.getElementById(list).classList.add('old');
     return;
   }
   drawSide('L', document.getElementById('left-moves'), document.getElementById('left-title'));
   drawSide('R', document.getElementById('right-moves'), document.getElementById('right-title'));
-  document.getElementById('checked').textContent = checkedWords(state.moves.checks);
+  document.getElementById('checked').textContent = state.moves ? checkedWords(state.moves.checks) : waitingWords();
 }
 
 function checkedWords(checks) {
@@ -26,29 +26,61 @@ function checkedWords(checks) {
   return 'Checked: the program confirms that the position equals the brace of these moves.';
 }
 
+function waitingWords() {
+  return state.problem ? 'What these moves are worth isn’t known.' : 'What these moves are worth isn’t known yet.';
+}
+
+function isVeiled() {
+  return Boolean(state.game && !state.game.open);
+}
+
+// The moves that the visitor wants to see, in the order that is wished.
+function chosen(player) {
+  const all = movesOf(player);
+  if (!state.moves || isVeiled()) return all;
+  const seen = new Set();
+  const fits = {
+    all: () => true,
+    each: ({ part, value }) => !value?.name || !seen.has(`${part} ${value.name}`) && seen.add(`${part} ${value.name}`),
+    canonical: ({ sensible }) => sensible,
+    wins: ({ wins }) => wins,
+  };
+  const found = all.filter(fits[wish.filter]);
+  return wish.best ? found.sort((one, other) => rank(other, player) - rank(one, player)) : found;
+}
+
+// Winning moves first, then by the stop that is left, as the computer chooses.
+function rank({ wins, stop }, player) {
+  if (stop === null || stop === undefined) return -1e9;
+  const [above, below = 1] = stop.split('/').map(Number);
+  return (wins ? 1e6 : 0) + (player === 'L' ? above / below : -above / below);
+}
+
 function drawSide(player, list, title) {
-  const moves = state.moves.moves[player];
+  const all = movesOf(player).length;
+  const moves = chosen(player);
   list.classList.remove('old');
-  title.textContent = `${NAMES[player]}’s moves${moves.length ? ` (${moves.length})` : ''}`;
+  const count = moves.length < all ? `${moves.length} of ${all}` : String(all);
+  title.textContent = `${NAMES[player]}’s moves${all ? ` (${count})` : ''}`;
   const many = opened[player] ? moves : moves.slice(0, FIRST);
   const items = many.map((move) => element('li', {}, moveButton(player, move)));
-  if (!moves.length) items.push(element('li', { class: 'none' }, `${NAMES[player]} has no move.`));
+  if (!moves.length && state.moves) items.push(element('li', { class: 'none' }, all ? 'None of the moves is such a one.' : `${NAMES[player]} has no move.`));
   if (many.length < moves.length) {
     const all = () => { opened[player] = true; drawMoves(); };
     items.push(element('li', { class: 'rest' }, element('button', { onclick: all }, `Show all ${moves.length}`)));
   }
-  list.replaceChildren(...items);
+  renew(list, ...items);
 }
 
 function moveButton(player, move) {
   const many = now().parts.length > 1;
   const reason = state.reasons?.[move.part]?.[player]?.[move.name];
-  const veiled = state.game && !state.game.open;
+  const veiled = isVeiled();
   const marks = veiled ? [] : marksOf(move, reason);
   const label = [`${NAMES[player]} ${many ? `in part ${move.part + 1}, ` : ''}${move.name}`, ...(veiled ? [] : [valueWords(move)]), ...marks.map((mark) => mark.title)].join('; ');
-  const button = element('button', { class: `move${move.wins && !veiled ? ' winning' : ''}`, 'aria-label': label, 'data-move': move.name, 'data-part': move.part, onclick: () => makeMove({ ...move, player }) });
+  const button = element('button', { class: `move${move.wins && !veiled ? ' winning' : ''}`, 'aria-label': label, 'data-move': move.name, 'data-part': move.part, 'data-focus': `${player}${move.part}:${move.name}`, onclick: (event) => make(event, { ...move, player }) });
   const then = many && move.winner && !veiled ? ` <b class="chip ${move.winner}" title="${THEN[move.winner]}">${move.winner}</b>` : '';
-  button.append(boards(player, move), html('span', { class: 'name' }, `${many ? `<i>${move.part + 1}</i> ` : ''}${escaped(move.name)}${then}`));
+  button.append(boards(player, move), html('span', { class: 'name' }, `${many ? `<i>${move.part + 1}</i> ` : ''}${escaped(move.name)}${then}${veiled ? '' : heat(move)}`));
   if (!veiled) button.append(valueShown(move));
   if (marks.length) button.append(element('span', { class: 'marks' }, ...marks.map(({ kind, text, title }) => element('b', { class: `mark ${kind}`, title }, text))));
   return button;
@@ -75,14 +107,25 @@ function cellsIn(part, name) {
 }
 
 function valueShown(move) {
-  if (!move.value) return element('span', { class: 'line quiet' }, 'not asked');
+  if (!move.value) return element('span', { class: 'line quiet' }, state.moves ? 'not asked' : state.problem ? 'not known' : '…');
   if (move.value.refused) return element('span', { class: 'line refused', title: move.value.sentence }, move.value.refused);
-  const heat = move.temperature === null || move.temperature === undefined ? '' : `<span class="heat" title="temperature">t ${fraction(move.temperature)}</span>`;
-  return html('span', { class: 'line' }, `${written(move.value.shown)} ${heat}`);
+  return html('span', { class: 'line' }, written(move.value.shown));
+}
+
+function heat({ temperature }) {
+  if (temperature === null || temperature === undefined) return '';
+  return ` <span class="heat" title="temperature">t ${fraction(temperature)}</span>`;
+}
+
+// Makes a move; who clicked on it sees the board that it leaves.
+function make(event, move) {
+  makeMove(move);
+  const board = document.getElementById('board');
+  if (event.detail && board.getBoundingClientRect().bottom < 120) document.querySelector('main').scrollIntoView();
 }
 
 function valueWords(move) {
-  if (!move.value) return 'value not asked';
+  if (!move.value) return state.moves ? 'value not asked' : 'value not known';
   if (move.value.refused) return `no value: ${move.value.sentence}`;
   return `leaves ${move.value.name}, temperature ${move.temperature}, ${THEN[move.winner] || ''}`;
 }

@@ -1,6 +1,6 @@
 // A game against the computer, which moves as the server's rule says.
 import { NAMES } from './games.js';
-import { element, look, makeMove, now, show, state, when } from './state.js';
+import { element, look, makeMove, now, renew, show, state, when } from './state.js';
 import { drawMoves } from './moves.js';
 import { download } from './save.js';
 
@@ -11,7 +11,7 @@ let clock = null;
 export function drawPlay() {
   const inside = document.querySelector('#play .inside');
   const { game } = state;
-  inside.replaceChildren(...(game ? during(game) : before()));
+  renew(inside, ...(game ? during(game) : before()));
 }
 
 function before() {
@@ -27,7 +27,7 @@ function before() {
 function during(game) {
   const mine = game.turn === game.person;
   const line = element('p', { id: 'turn', class: game.over ? 'over' : '', role: 'status' }, statusWords(game, mine));
-  const moves = game.record.map(({ player, name, part }, at) => element('li', {}, `${NAMES[player]} ${part}${name}${at === game.record.length - 1 ? '' : ''}`));
+  const moves = game.record.map(({ player, name, part }) => element('li', {}, `${NAMES[player]} ${part}${name}`));
   return [
     line,
     element('p', { id: 'said', class: 'quiet' }, game.said || ''),
@@ -44,7 +44,7 @@ function during(game) {
 
 function statusWords(game, mine) {
   if (game.over) return `${NAMES[game.turn]} can’t move: ${mine ? 'the computer wins.' : 'you win.'}`;
-  if (!state.moves) return 'Computing';
+  if (!state.moves && !(mine && state.listed)) return 'Computing';
   return mine ? `Your move, ${NAMES[game.person]}.` : `The computer moves as ${NAMES[game.turn]}.`;
 }
 

@@ -1,7 +1,7 @@
 // What can be taken along: an address, pictures, LaTeX, Python text, a session.
 import { picture } from './draw.js';
 import { pythonOf } from './games.js';
-import { element, now, state, toast } from './state.js';
+import { element, now, renew, state, toast } from './state.js';
 
 // The colours of pictures that leave the page, which have no style sheet there.
 const STYLE = `.cell{fill:#fff;stroke:#555}.cell.filled{fill:#8a8f98}.stone.left circle,.vertex.left,.toad.left{fill:#1f5fbf}
@@ -97,7 +97,7 @@ export function drawSave() {
   const texts = now().parts;
   const words = [...new Set(texts.map((one) => pythonOf(one).replace(/^-/, '').split('(')[0]))];
   const python = `from cgcalc import ${words.sort().join(', ') || 'Game'}\n\ng = ${texts.map(pythonOf).join(' + ').replace(/\+ -/g, '- ') || 'Game("0")'}\n`;
-  inside.replaceChildren(
+  renew(inside,
     text('Address', address(), 'address'),
     both('Picture of the position', 'position', positionPicture),
     both('Thermograph', 'thermograph', () => state.answer?.thermo?.svg),

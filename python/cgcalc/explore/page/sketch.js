@@ -1,6 +1,6 @@
 // What drawings and graphs have in common: a canvas with things that are clicked, dragged and reached by keys.
 import { make } from './draw.js';
-import { makeMove, now, setPart, show, state, toast } from './state.js';
+import { makeMove, movesOf, now, setPart, show, state, toast } from './state.js';
 
 // What the brush does on a part: a colour, `edge`, `move` or `remove`.
 export function toolsOf(part) {
@@ -50,9 +50,9 @@ export class Sketch {
   }
 
   play(name) {
-    const move = (state.moves?.moves[state.mode] || []).find((one) => one.part === this.at && one.name === name);
+    const move = movesOf(state.mode).find((one) => one.part === this.at && one.name === name);
     if (move) makeMove({ ...move, player: state.mode });
-    else if (state.moves) toast('No move there.');
+    else if (state.moves || state.listed) toast('No move there.');
   }
 
   keep(places) {

@@ -3,17 +3,38 @@ import { readPart, textOf } from './games.js';
 
 export const state = {
   history: [], at: -1, mode: 'draw', brush: '', picked: null, effort: 0,
-  answer: null, moves: null, reasons: null, problem: null, game: null,
+  answer: null, listed: null, moves: null, reasons: null, problem: null, game: null,
 };
+// Which moves are shown, in which order, and whether the players take turns on the board.
+export const wish = { filter: 'all', best: false, turns: false };
 const heard = { position: [], answer: [], view: [] };
+
+// The moves of a player as far as they are known: with what they are worth, or listed before that.
+export function movesOf(player) {
+  return (state.moves?.moves || state.listed)?.[player] || [];
+}
 
 export function when(what, call) {
   heard[what].push(call);
 }
 
 export function changed(what) {
-  for (const call of heard[what]) call();
+  if (what === 'answer' && pressed) late = true;
+  else for (const call of heard[what]) call();
 }
+
+// What is drawn anew under a pressed pointer gets no click: answers wait until it is released.
+let pressed = false;
+let late = false;
+
+function release() {
+  pressed = false;
+  if (late) changed('answer');
+  late = false;
+}
+
+document.addEventListener('pointerdown', () => { pressed = true; }, true);
+for (const end of ['pointerup', 'pointercancel']) document.addEventListener(end, () => setTimeout(release), true);
 
 export function now() {
   return state.history[state.at];
@@ -49,7 +70,7 @@ export function go(at) {
 }
 
 function refresh() {
-  Object.assign(state, { answer: null, moves: null, reasons: null, problem: null, picked: null, effort: 0 });
+  Object.assign(state, { answer: null, listed: null, moves: null, reasons: null, problem: null, picked: null, effort: 0 });
   changed('position');
 }
 
@@ -63,6 +84,7 @@ export function makeMove(move) {
   const places = before.places.slice();
   places.splice(move.part, 1, ...move.leaves.map(() => before.places[move.part] || null));
   const { player, name, part } = move;
+  if (wish.turns && !state.game && state.mode !== 'draw') state.mode = player === 'L' ? 'R' : 'L';
   show(move.after, { places, move: { player, name, part, many: before.parts.length > 1 } });
 }
 
@@ -84,6 +106,19 @@ export function element(name, attributes = {}, ...inside) {
   }
   made.append(...inside.filter((one) => one !== null && one !== undefined));
   return made;
+}
+
+// Replaces what an element holds; the focus stays on what is the same there, or in its place.
+export function renew(holder, ...inside) {
+  const focus = holder.contains(document.activeElement) ? document.activeElement : null;
+  const at = focus && [...holder.querySelectorAll(focus.tagName)].indexOf(focus);
+  holder.replaceChildren(...inside);
+  if (!focus || holder === focus) return;
+  const mark = focus.id ? `#${CSS.escape(focus.id)}` : focus.dataset.focus && `[data-focus="${CSS.escape(focus.dataset.focus)}"]`;
+  const same = mark && holder.querySelector(mark);
+  const alike = [...holder.querySelectorAll(focus.tagName)].filter((one) => !one.disabled);
+  const next = same && !same.disabled ? same : alike[Math.min(at, alike.length - 1)] || holder.querySelector('button:not(:disabled), input, [tabindex="0"]');
+  next?.focus({ preventScroll: true });
 }
 
 export function html(name, attributes, text) {
