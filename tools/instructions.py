@@ -1,0 +1,118 @@
+"""Counts the instructions of sessions by valgrind, and compares them with the numbers in tools/instructions.txt."""
+import concurrent.futures
+import os
+import re
+import subprocess
+import sys
+import tempfile
+import time
+
+from command import PROGRAM, TOOLS
+
+STORED = os.path.join(TOOLS, "instructions.txt")
+MORE, LESS = 1.05, 0.90
+FRONT = """# How many instructions each session takes, with one worker, by valgrind. tools/bench --check compares these numbers with what
+# the built program takes; tools/bench --store writes them, and the commit that changes them says why.
+"""
+# The C library chooses some of its functions, and from which size on it uses them, by the processor. Here it takes those of x86-64-v2.
+FEATURES = "glibc.cpu.hwcaps=-AVX,-AVX2,-AVX512F,-AVX512VL,-BMI1,-BMI2,-ERMS,-FSRM,-LZCNT,-MOVBE,-RTM"
+SIZES = {"data_cache_size": "0x8000", "shared_cache_size": "0x100000", "non_temporal_threshold": "0x4000000",
+         "rep_movsb_threshold": "0x4000", "rep_stosb_threshold": "0x4000"}
+TUNED = ":".join([FEATURES, *(f"glibc.cpu.x86_{name}={size}" for name, size in SIZES.items()), "glibc.malloc.arena_max=1"])
+ENVIRONMENT = {"GLIBC_TUNABLES": TUNED, "LC_ALL": "C", "PATH": "/usr/bin:/bin"}
+
+
+class Miscounted(Exception):
+    """A session whose instructions couldn't be counted."""
+
+
+def instructions(words, data):
+    """How many instructions a run with one worker takes. Neither the environment nor the path of the program changes that."""
+    with tempfile.TemporaryDirectory() as folder:
+        os.symlink(PROGRAM, os.path.join(folder, "cg"))
+        command = ["valgrind", "--tool=cachegrind", "--cache-sim=no", "--cachegrind-out-file=/dev/null", "./cg", "--workers", "1"]
+        done = subprocess.run([*command, *words], input=data, stdout=subprocess.DEVNULL, stderr=subprocess.PIPE, check=False,
+                              cwd=folder, env=ENVIRONMENT)
+    counted = re.search(r"I +refs: +([\d,]+)", done.stderr.decode("utf-8", "replace"))
+    if done.returncode not in (0, 1) or not counted:
+        raise Miscounted(f"status {done.returncode}: {done.stderr.decode('utf-8', 'replace').strip()[-200:]}")
+    return int(counted[1].replace(",", ""))
+
+
+def stored():
+    """The stored numbers, by the names of their sessions."""
+    found = {}
+    if os.path.exists(STORED):
+        with open(STORED, encoding="utf-8") as file:
+            for line in file:
+                number, _, name = line.rstrip("\n").partition("\t")
+                if not line.startswith("#"):
+                    found[name] = int(number.replace(",", ""))
+    return found
+
+
+def store(numbers):
+    """Writes these numbers."""
+    with open(STORED, "w", encoding="utf-8") as file:
+        file.write(FRONT + "".join(f"{number:,}\t{name}\n" for name, number in numbers.items()))
+
+
+def counted(sessions):
+    """The instructions of each session, by its name, or why they couldn't be counted; some are counted side by side."""
+    def one(name):
+        words, data = sessions[name]
+        try:
+            return instructions(words, data() if callable(data) else data)
+        except Miscounted as why:
+            return str(why)
+    with concurrent.futures.ThreadPoolExecutor(min(4, len(os.sched_getaffinity(0)))) as pool:
+        return dict(zip(sessions, pool.map(one, sessions)))
+
+
+def compared(found, known):
+    """What is wrong with these numbers, beside those that are stored."""
+    for name, number in found.items():
+        if isinstance(number, str):
+            yield f"{name}: {number}"
+        elif name not in known:
+            yield f"{name}: {number:,} instructions, and no number is stored (tools/bench --store)"
+        elif number > MORE * known[name]:
+            yield f"{name}: {number:,} instructions are {number / known[name]:.3f} of the {known[name]:,} that are stored"
+        elif number < LESS * known[name]:
+            yield (f"{name}: {number:,} instructions are {number / known[name]:.3f} of the {known[name]:,} that are stored: write "
+                   "the better number (tools/bench --store)")
+
+
+def check(sessions, is_all):
+    """Compares the sessions' instructions with the stored numbers; where these are all sessions, no other number may be stored."""
+    began, known = time.monotonic(), stored()
+    found = counted(sessions)
+    wrong = list(compared(found, known))
+    wrong += [f"{name}: a number is stored, and there is no such session" for name in known if is_all and name not in found]
+    for text in wrong:
+        print("bench: " + text)
+    millions = sum(number for number in found.values() if not isinstance(number, str)) / 1e6
+    print(f"bench: {len(found)} sessions, {millions:,.0f} million instructions, {time.monotonic() - began:.0f} seconds, "
+          f"{len(wrong)} wrong")
+    return 1 if wrong or not found else 0
+
+
+def write(sessions, is_all):
+    """Stores the sessions' instructions, and tells what changed."""
+    known = stored()
+    found = counted(sessions)
+    for name, number in found.items():
+        if isinstance(number, str):
+            print(f"bench: {name}: {number}")
+            return 1
+        before = f"{number / known[name]:.3f} of {known[name]:,}" if name in known else "new"
+        print(f"{number:15,}  {name}: {before}")
+    store(found if is_all else {**known, **found})
+    return 0
+
+
+def refuse_without_valgrind(where):
+    """Ends the tool where valgrind isn't there."""
+    if not where:
+        print("bench: valgrind isn't there, which counts instructions (Debian's package valgrind)", file=sys.stderr)
+        sys.exit(2)
