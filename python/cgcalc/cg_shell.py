@@ -23,7 +23,6 @@ from cgcalc.tool import (
     end_by_signals,
     tell,
 )
-from cgcalc.version import add_version
 
 try:
     import readline
@@ -77,7 +76,7 @@ def read_words(words: Optional[Sequence[str]]) -> argparse.Namespace:
     reader.add_argument("files", nargs="*", metavar="FILE", help=files)
     reader.add_limits()
     reader.add_runs()
-    add_version(reader)
+    reader.add_version()
     return reader.parse_args(words)
 
 

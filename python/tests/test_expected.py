@@ -26,7 +26,7 @@ from cgcalc import (
 )
 from cgcalc.processors import processors
 from cgcalc.table import Table
-from tests.places import command, environment, run
+from tests.places import ROOT, command, environment, run
 
 
 class Index:
@@ -209,6 +209,16 @@ def test_a_session_takes_the_processors_that_it_may_use() -> None:
     changes = environment(PYTHONPATH=str(Path(__file__).parents[1]))
     done = subprocess.run([sys.executable, "-c", script], env=changes, stdout=-1, check=True)
     assert done.stdout == b"1\n"
+
+
+def test_importing_it_loads_little() -> None:
+    script = "import sys, cgcalc; print(*sys.modules)"
+    words = [sys.executable, "-c", script]
+    there = {**environment(), "PYTHONPATH": str(ROOT / "python")}
+    done = subprocess.run(words, stdout=subprocess.PIPE, env=there, check=True)
+    loaded = set(done.stdout.decode().split())
+    assert "cgcalc.game" in loaded
+    assert not loaded & {"argparse", "csv", "hashlib", "json", "pandas", "sqlite3", "xml.sax"}
 
 
 def test_a_shell_without_a_home() -> None:
