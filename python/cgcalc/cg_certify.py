@@ -26,7 +26,6 @@ from cgcalc.tool import (
     tell,
     write_output,
 )
-from cgcalc.version import add_version
 
 COMMAND = "cg-certify"
 FORMAT = "cg 2"
@@ -85,7 +84,7 @@ def read_words(words: Optional[Sequence[str]]) -> argparse.Namespace:
         metavar="FILE",
         help="has Coq check a file that was written before",
     )
-    add_version(reader)
+    reader.add_version()
     reader.add_limits()
     reader.add_runs()
     return reader.parse_args(words)

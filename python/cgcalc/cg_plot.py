@@ -28,7 +28,6 @@ from cgcalc.tool import (
     tell,
     write_output,
 )
-from cgcalc.version import add_version
 
 COMMAND = "cg-plot"
 HEIGHTS = range(40, 4_001)
@@ -75,7 +74,7 @@ def read_words(words: Optional[Sequence[str]]) -> argparse.Namespace:
         "--height", type=int, default=260, metavar="N", help="pixels of walls and mast (260)"
     )
     reader.add_argument("--untitled", action="store_true", help="no expression above the picture")
-    add_version(reader)
+    reader.add_version()
     reader.add_limits()
     reader.add_runs()
     return reader.parse_args(words)

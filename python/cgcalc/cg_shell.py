@@ -23,7 +23,6 @@ from cgcalc.tool import (
     end_by_signals,
     tell,
 )
-from cgcalc.version import add_version
 
 try:
     import readline
@@ -77,7 +76,7 @@ def read_words(words: Optional[Sequence[str]]) -> argparse.Namespace:
     reader.add_argument("files", nargs="*", metavar="FILE", help=files)
     reader.add_limits()
     reader.add_runs()
-    add_version(reader)
+    reader.add_version()
     return reader.parse_args(words)
 
 
@@ -104,12 +103,12 @@ def serve_pipe(shell: Shell) -> int:
 def serve_terminal(shell: Shell) -> int:
     """Answers the lines that are typed, and gives the status."""
     history = history_place()
-    start_editing(shell, history)
+    known = start_editing(shell, history)
     say(f"{COMMAND}: a question on each line; `:help` tells more, Ctrl-D ends")
     try:
         shell.serve_typed(typed_lines())
     finally:
-        keep_history(history)
+        keep_history(history, known)
     return 0
 
 
@@ -136,23 +135,34 @@ def typed_lines() -> Iterator[str]:
             return
 
 
-def start_editing(shell: Shell, history: Optional[Path]) -> None:
-    """Lets the arrow keys find earlier lines, and the tab key complete words."""
+def start_editing(shell: Shell, history: Optional[Path]) -> int:
+    """Lets the arrow keys find earlier lines, and the tab key complete words.
+
+    It gives the number of the earlier lines.
+    """
     if readline is None:
-        return
+        return 0
     start_completion(readline, lambda: shell.session.definitions)
     try:
         if history is not None:
             readline.read_history_file(str(history))
     except OSError:
         pass  # there is none yet
+    return readline.get_current_history_length()
 
 
-def keep_history(history: Optional[Path]) -> None:
-    """Writes the history to its place, whole."""
+def keep_history(history: Optional[Path], known: int) -> None:
+    """Adds what was typed to the history, which other shells may have written to meanwhile."""
     if readline is None or history is None:
         return
+    count = readline.get_current_history_length()
+    typed = [readline.get_history_item(place) for place in range(known + 1, count + 1)]
     try:
+        if history.is_file():
+            readline.clear_history()
+            readline.read_history_file(str(history))
+            for line in typed:
+                readline.add_history(line)
         readline.set_history_length(MOST_HISTORY)
         with tempfile.TemporaryDirectory() as folder:
             written = Path(folder, "history")

@@ -34,7 +34,6 @@ from cgcalc.tool import (
     status_of,
     tell,
 )
-from cgcalc.version import add_version
 
 COMMAND = "cg-table"
 
@@ -93,7 +92,7 @@ def read_words(words: Optional[Sequence[str]]) -> argparse.Namespace:
     reader.add_runs()
     cells = f"the most cells of a run's table ({CELLS})"
     add("--cells", type=int, default=CELLS, metavar="C", help=cells)
-    add_version(reader)
+    reader.add_version()
     return reader.parse_intermixed_args(words)
 
 

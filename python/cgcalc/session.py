@@ -2,6 +2,7 @@
 from __future__ import annotations
 
 import os
+import shutil
 import threading
 from concurrent.futures import Executor
 from typing import Iterable, Optional, Sequence, Union
@@ -281,15 +282,17 @@ class Session(TypedCalls):
 def _program_of(given: object, executor: Optional[Executor]) -> Optional[str]:
     """The program that a session runs; None where each of an executor's workers finds its own.
 
-    A relative path counts from the folder where the session is made; with an executor, from where
-    each worker runs.
+    A relative path counts from the folder where the session is made, and a name is that of a
+    command on the path; with an executor both mean what they do where each worker runs.
     """
     if given is None:
         return find_program() if executor is None else None
     if not isinstance(given, (str, os.PathLike)):
         raise WrongCall(f"program is the path of one, not {given!r}")
     path = os.fsdecode(given)
-    return os.path.abspath(path) if executor is None and os.sep in path else path
+    if executor is not None:
+        return path
+    return os.path.abspath(path) if os.sep in path else shutil.which(path) or path
 
 
 def _within(what: str, number: object, most: int) -> int:

@@ -59,7 +59,7 @@ class Shell:
             if text in (":quit", "quit", "exit"):
                 return
             if text.startswith(":") or word_of(text) in ("help", "?") and ":=" not in text:
-                self.obey(*text.split())
+                self.obey(text)
             elif text and text != SESSION_FORMAT and not text.startswith("#"):
                 self.answer(line)
 
@@ -128,17 +128,18 @@ class Shell:
         )
         say(f"{reply}: {reply.explain(line)}{advice}")
 
-    def obey(self, command: str, *words: str) -> None:
+    def obey(self, line: str) -> None:
         """Does what a command of the shell's own says."""
+        command, *words = line.split()
         if command in (":help", "help", "?", ":?") and len(words) < 2:
             self.help(*words)
         elif command == ":names" and not words:
             for name, text in self.session.definitions.items():
                 say(f"{name} := {text}")
-        elif command == ":save" and len(words) == 1:
-            self.save(Path(words[0]))
-        elif command == ":load" and len(words) == 1:
-            self.load(Path(words[0]))
+        elif command == ":save" and words:
+            self.save(path_of(line[len(command) :]))
+        elif command == ":load" and words:
+            self.load(path_of(line[len(command) :]))
         elif command in (":share", ":positions") and len(words) == 1:
             self.set_limit(command[1:], words[0])
         else:
@@ -193,6 +194,19 @@ def is_expression(line: str, names: Iterable[str]) -> bool:
     text = line.strip(BLANKS)
     first = re.match("[a-z][a-z0-9]*", text)
     return not first or first[0] in names or re.fullmatch("v+[0-9]*", first[0]) is not None
+
+
+def path_of(text: str) -> Path:
+    """The path that is typed, in which `~` is the home folder.
+
+    >>> path_of(" my sheets/one ")
+    PosixPath('my sheets/one')
+    """
+    path = Path(text.strip(BLANKS))
+    try:
+        return path.expanduser()
+    except RuntimeError:  # there is no such home folder
+        return path
 
 
 def say(text: str) -> None:

@@ -9,6 +9,7 @@ from typing import Any, NoReturn
 
 from cgcalc.errors import WrongCall
 from cgcalc.limits import POSITIONS, SHARE
+from cgcalc.version import version_text
 
 REFUSED = 1
 BAD_USE = 2
@@ -32,6 +33,11 @@ class CommandLine(argparse.ArgumentParser):
         tell(self.prog, f"{message} ({self.prog} --help tells the words)")
         sys.exit(BAD_USE)
 
+    def add_version(self) -> None:
+        """Adds the option that tells the version."""
+        told = "tells the version, which program is asked, and whether it is a proved one"
+        self.add_argument("--version", action=TellVersion, nargs=0, help=told)
+
     def add_limits(self) -> None:
         """Adds the options that say how much a question may take."""
         cells = f"cells of the table for each line ({SHARE})"
@@ -49,6 +55,14 @@ class CommandLine(argparse.ArgumentParser):
         named = "the same with a file of another name"
         self.add_argument("--cache", action="store_const", const=True, help=own)
         self.add_argument("--cache-file", dest="cache", metavar="FILE", help=named)
+
+
+class TellVersion(argparse.Action):
+    """The option `--version`."""
+
+    def __call__(self, reader: argparse.ArgumentParser, *_: object) -> NoReturn:
+        print(version_text(reader.prog))
+        raise SystemExit(0)
 
 
 def bytes_of(text: str) -> int:

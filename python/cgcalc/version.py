@@ -1,11 +1,10 @@
 """The version of the package, and what is known of the program that it asks."""
 from __future__ import annotations
 
-import argparse
 import os
 from functools import lru_cache
 from pathlib import Path
-from typing import Mapping, NoReturn, Optional
+from typing import Mapping, Optional
 
 from cgcalc.program import BUILT, ProgramMissing, clone, find_program, folder
 
@@ -75,17 +74,3 @@ def proof_text(program: str) -> str:
         return "unknown program: no record of a proof has its checksum"
     told = {name: record.get(name, "?") for name in ("program", "kit", "commit")}
     return "proved: {program} by {kit}, commit {commit}".format(**told)
-
-
-class TellVersion(argparse.Action):
-    """The option `--version` of a command."""
-
-    def __call__(self, reader: argparse.ArgumentParser, *_: object) -> NoReturn:
-        print(version_text(reader.prog))
-        raise SystemExit(0)
-
-
-def add_version(reader: argparse.ArgumentParser) -> None:
-    """Adds the option `--version` to the words of a command."""
-    help_text = "tells the version, which program is asked, and whether it is a proved one"
-    reader.add_argument("--version", action=TellVersion, nargs=0, help=help_text)

@@ -16,6 +16,8 @@ from typing import Any
 from unittest import mock
 
 from cgcalc import CgError, Failed, Refusal, Session, Value, WrongCall, find_program
+from cgcalc.batch_limits import START_BYTES, Limits
+from cgcalc.limits import CELLS, POSITIONS, SHARE
 from cgcalc.runs import environment
 from tests.places import ROOT, distinct, ended, program, waits
 
@@ -300,8 +302,14 @@ class Losing(Executor):
         return self.executor.submit(function, *arguments, **named)
 
 
-class LargePages(unittest.TestCase):
-    """What the runs are told of memory."""
+class Memory(unittest.TestCase):
+    """What the runs are told of memory, and what they take of it together."""
+
+    def test_many_processors_take_little(self) -> None:
+        for processes, most in [(1, 128 << 20), (4, 256 << 20), (64, 2 << 30)]:
+            limits = Limits(SHARE, POSITIONS, CELLS, processes, None, None, None, None)
+            runs = limits.most_busy // limits.workers + 1
+            self.assertLessEqual(runs * limits.table * START_BYTES, most)
 
     def test_what_the_user_says_stays(self) -> None:
         said = "glibc.malloc.hugetlb=0"

@@ -155,6 +155,17 @@ class AtATerminal(unittest.TestCase):
         self.assertEqual(terminal.read(), "+-1\n")
 
     @needs_readline
+    def test_two_shells_keep_one_history(self) -> None:
+        self.history.write_text("value 0\n")
+        first, second = self.terminal(), self.terminal()
+        for number, terminal in enumerate((second, first), 1):
+            terminal.ask(f"value {number}")
+            terminal.type(":quit\n")
+            self.assertEqual(terminal.status(), 0)
+        written = "value 0\nvalue 1\n:quit\nvalue 2\n:quit\n"
+        self.assertEqual(self.history.read_text(), written)
+
+    @needs_readline
     def test_a_history_that_can_not_be_kept(self) -> None:
         terminal = Terminal(CG_HISTORY="/nowhere/history")
         self.addCleanup(terminal.close)
@@ -464,6 +475,13 @@ class Worksheets(unittest.TestCase):
         _, again, _ = run("cg-shell", [], f":load {self.sheet}\n:names\n")
         self.assertTrue(again.startswith("{2|0}\n1\n1^\n{1|0}\n"), again)
         self.assertTrue(again.endswith("g := {g|0}\n"), again)
+
+    def test_names_of_files_as_people_type_them(self) -> None:
+        home = {"HOME": str(self.sheet.parent)}
+        self.assertEqual(run("cg-shell", [], "1\n:save ~/my  sheet \n", home), (0, "1\n", ""))
+        self.assertTrue(Path(self.sheet.parent, "my  sheet").is_file())
+        loaded = run("cg-shell", [], f":load {self.sheet.parent}/my  sheet\n", home)
+        self.assertEqual(loaded, (0, "1\n", ""))
 
     def test_files_that_are_none(self) -> None:
         status, written, _ = run("cg-shell", [], f":load {self.sheet}\n1\n")

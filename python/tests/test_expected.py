@@ -21,12 +21,13 @@ from cgcalc import (
     WrongCall,
     clobber,
     domineering,
+    find_program,
     game,
     octal,
 )
 from cgcalc.processors import processors
 from cgcalc.table import Table
-from tests.places import command, environment, run
+from tests.places import ROOT, command, environment, run
 
 
 class Index:
@@ -209,6 +210,30 @@ def test_a_session_takes_the_processors_that_it_may_use() -> None:
     changes = environment(PYTHONPATH=str(Path(__file__).parents[1]))
     done = subprocess.run([sys.executable, "-c", script], env=changes, stdout=-1, check=True)
     assert done.stdout == b"1\n"
+
+
+def test_the_empty_board_of_4_by_5_is_answered_everywhere() -> None:
+    board = 'Domineering(".....|.....|.....|.....")'
+    asked = subprocess.run(
+        [find_program()], input=f"value {board}\n".encode(), stdout=subprocess.PIPE, check=True
+    )
+    name = asked.stdout.decode().partition(": ")[2].rstrip("\n")
+    assert "!" not in name and str(Session().value(board)) == name
+    assert run("cg-shell", ["-c", board]) == (0, f"{name}\n", "")
+    sizes = ["--rows", "4", "--columns", "5", "--fill", "."]
+    table = run("cg-table", ['value Domineering("{board}")', *sizes])
+    assert table == (0, f"rows\tcolumns\tvalue\n4\t5\t{name}\n", "")
+    assert run("cg-plot", [board])[0] == 0
+
+
+def test_importing_it_loads_little() -> None:
+    script = "import sys, cgcalc; print(*sys.modules)"
+    words = [sys.executable, "-c", script]
+    there = {**environment(), "PYTHONPATH": str(ROOT / "python")}
+    done = subprocess.run(words, stdout=subprocess.PIPE, env=there, check=True)
+    loaded = set(done.stdout.decode().split())
+    assert "cgcalc.game" in loaded
+    assert not loaded & {"argparse", "csv", "hashlib", "json", "pandas", "sqlite3", "xml.sax"}
 
 
 def test_a_shell_without_a_home() -> None:

@@ -91,6 +91,8 @@ class FindProgram(unittest.TestCase):
         for given in ways:
             self.assertEqual(Session(program=given).program, named)
         self.assertEqual(Session(program="it").program, "it")
+        with mock.patch.dict(os.environ, {"PATH": os.path.dirname(named)}):
+            self.assertEqual(Session(program="it").program, named)
         with self.assertRaisesRegex(WrongCall, "program is the path of one, not 3"):
             Session(program=3)  # type: ignore[arg-type]
         with ThreadPoolExecutor() as executor:

@@ -17,7 +17,6 @@ from cgcalc.explore.asking import Desk
 from cgcalc.explore.kept import Limits
 from cgcalc.program import CgError, find_program
 from cgcalc.tool import BAD_USE, STOPPED, CommandLine, bytes_of, tell
-from cgcalc.version import add_version
 
 COMMAND = "cg-explore"
 PORT = 8642
@@ -65,7 +64,7 @@ def read_words(words: Optional[Sequence[str]]) -> argparse.Namespace:
     add("--timeout", type=float, default=20.0, metavar="S", help=seconds)
     size = "how much memory a run may take, as 500M or 2G (1G)"
     add("--memory", type=bytes_of, default=1 << 30, metavar="SIZE", help=size)
-    add_version(reader)
+    reader.add_version()
     return reader.parse_args(words)
 
 
