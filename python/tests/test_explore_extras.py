@@ -164,6 +164,47 @@ class Extras(PageCase):
             lambda: self.browser.text("#sheet li:nth-child(3) output").startswith("0"), "0"
         )
         self.assertEqual(self.sheet()[:3], ["cg 2", "h := {1|-1}", "value h + h"])
+        with tempfile.TemporaryDirectory() as folder:
+            self.browser.saves_to(folder)
+            self.browser.click("#save-sheet")
+            saved = Path(folder) / "session.cg"
+            self.browser.until(saved.exists, "the session")
+            self.assertEqual(answered(saved.read_text()), (0, "2: +-1\n3: 0\n"))
+
+    def test_the_worksheet_completes_words(self) -> None:
+        self.open("^")
+        self.browser.idle()
+        self.browser.click("#sheet summary")
+        self.browser.click("#sheet [data-line='1']")
+        self.browser.keys("a", held=KEYS["control"])
+        self.browser.keys("th", KEYS["tab"])
+        self.browser.until(lambda: self.sheet()[1] == "thermo", "the word")
+        self.browser.keys(" g", KEYS["enter"])
+        self.browser.until(
+            lambda: "mean" in self.browser.text("#sheet li:nth-child(2) output"), "the answer"
+        )
+
+    def test_strips_and_heaps(self) -> None:
+        self.open('Strip(".=1,0,0;A=0,0,0;L:..>AA;R:.>A","...")', 'Octal("0.7",3)')
+        session = Session()
+        self.browser.value_is(
+            str(session.value('Strip(".=1,0,0;A=0,0,0;L:..>AA;R:.>A","...") + Octal("0.7",3)'))
+        )
+        self.change("0:rules", ".=1,0,0;A=0,0,0;L:.>A;R:..>AA")
+        self.change("1:code", "0.77")
+        self.change("1:tokens", "5")
+        self.browser.click("#parts .card:nth-of-type(1) [data-focus='0:more Cells']")
+        whole = 'Strip(".=1,0,0;A=0,0,0;L:.>A;R:..>AA","....") + Octal("0.77",5)'
+        self.browser.value_is(str(session.value(whole)))
+        self.browser.choose("#mode", "R")
+        self.browser.click(self.cell("a1"))
+        self.browser.value_is(str(session.value(whole.replace("....", "AA.."))))
+
+    def change(self, field: str, text: str) -> None:
+        """Types a text in a field in place of what it has."""
+        self.browser.click(f"[data-focus='{field}']")
+        self.browser.keys("a", held=KEYS["control"])
+        self.browser.keys(text, KEYS["enter"])
 
     def sheet(self) -> list[str]:
         """The lines of the worksheet."""

@@ -132,7 +132,7 @@ function valueWords(move) {
 
 function marksOf(move, reason) {
   const marks = [];
-  if (move.wins) marks.push({ kind: 'wins', text: 'wins', title: `a winning move: ${THEN[move.winner]}` });
+  if (move.wins) marks.push({ kind: 'wins', text: 'wins', title: 'a winning move' });
   if (move.hottest) marks.push({ kind: 'hot', text: 'hottest', title: 'best at the greatest temperature' });
   if (reason) {
     const text = `${reason.why} ${reason.word} ${reason.by}`;
