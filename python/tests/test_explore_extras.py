@@ -14,6 +14,13 @@ from tests.explorer_case import KEYS, PageCase
 from tests.places import ROOT
 
 
+CONTROLS = ("button", "checkbox", "combobox", "gridcell", "image", "link", "radio", "textbox")
+FOCUSED = """const focus = document.activeElement;
+const shown = getComputedStyle(focus.matches('.segments input') ? focus.nextElementSibling : focus);
+return [focus.getAttribute('aria-label') || focus.id || focus.outerHTML,
+  `${shown.outlineStyle} ${shown.outlineWidth}`];"""
+
+
 class Quiet(http.server.SimpleHTTPRequestHandler):
     """Serves a folder, and tells nothing."""
 
@@ -93,6 +100,29 @@ class Extras(PageCase):
         parts = set(self.browser.attributes(".move:has(.hot)", "data-part"))
         self.assertTrue(hot)
         self.assertEqual(parts, {"3"})  # the hall
+
+    def test_each_control_has_a_name_and_shows_that_it_has_the_focus(self) -> None:
+        self.open('Clobber("xo|ox")', 'Hackenbush("0b1,1r2")', 'Snort("...","ab,bc")', "{2|-1}")
+        self.browser.idle()
+        for name in ("play", "sheet", "save", "help"):
+            self.browser.click(f"#{name} summary")
+        nodes = self.browser.driver.execute_cdp_cmd("Accessibility.getFullAXTree", {})["nodes"]
+        controls = [
+            node
+            for node in nodes
+            if not node["ignored"] and node.get("role", {}).get("value") in CONTROLS
+        ]
+        self.assertGreater(len(controls), 60)
+        nameless = [node for node in controls if not node.get("name", {}).get("value", "").strip()]
+        self.assertEqual(nameless, [])
+        self.browser.script("document.querySelector('.skip').focus()")
+        seen = set()
+        for _ in range(30):
+            self.browser.keys(KEYS["tab"])
+            what, outline = self.browser.script(FOCUSED)
+            self.assertEqual(outline, "solid 3px", what)
+            seen.add(what)
+        self.assertGreater(len(seen), 20, seen)
 
     def test_in_a_frame_of_another_page(self) -> None:
         from cgcalc.explore import explore
@@ -178,8 +208,8 @@ class Extras(PageCase):
         self.browser.click("#sheet [data-line='1']")
         self.browser.keys("a", held=KEYS["control"])
         self.browser.keys("th", KEYS["tab"])
-        self.browser.until(lambda: self.sheet()[1] == "thermo", "the word")
-        self.browser.keys(" g", KEYS["enter"])
+        self.browser.until(lambda: self.sheet()[1] == "thermo ", "the word")
+        self.browser.keys("g", KEYS["enter"])
         self.browser.until(
             lambda: "mean" in self.browser.text("#sheet li:nth-child(2) output"), "the answer"
         )

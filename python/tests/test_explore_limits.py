@@ -103,7 +103,7 @@ class Limits(unittest.TestCase):
         return str(told[0]["stopped"])
 
     def test_a_run_that_wants_more_memory(self) -> None:
-        server = Server("--memory", "36M", "--positions", "1048576")
+        server = Server("--memory", "36M", "--share", "1170000")
         self.addCleanup(server.end)
         told = server.ask("position", parts=['Domineering(".....|.....|.....|.....")'])
         value = told["parts"][0]["value"]
