@@ -85,10 +85,7 @@ class Extras(PageCase):
     def test_the_study_of_an_endgame(self) -> None:
         self.open("^")
         self.browser.value_is("^")
-        self.browser.script(
-            "const menu = document.getElementById('new'); menu.value = 'endgame';"
-            "menu.dispatchEvent(new Event('change'))"
-        )
+        self.choose_new("endgame")
         session = Session()
         lines = (ROOT / "examples" / "studies" / "endgame.cg").read_text().splitlines()
         for line in lines:
@@ -214,6 +211,26 @@ class Extras(PageCase):
             lambda: "mean" in self.browser.text("#sheet li:nth-child(2) output"), "the answer"
         )
 
+    def test_each_game_begins_with_a_position_that_is_answered(self) -> None:
+        self.open("^")
+        self.browser.value_is("^")
+        games: list[str] = self.browser.script(
+            "return [...document.querySelectorAll('#new option')].map((one) => one.value)"
+        )
+        self.assertEqual(len(games), 12)  # nine games, other forms, a study, and the menu's name
+        for game in filter(None, games):
+            self.browser.script("document.getElementById('live').textContent = ''")
+            self.choose_new(game)
+            self.browser.until(lambda: self.browser.text("#live").startswith("Value"), game)
+
+    def choose_new(self, game: str) -> None:
+        """Begins a new position."""
+        self.browser.script(
+            "const menu = document.getElementById('new'); menu.value = arguments[0];"
+            "menu.dispatchEvent(new Event('change'))",
+            game,
+        )
+
     def test_strips_and_heaps(self) -> None:
         self.open('Strip(".=1,0,0;A=0,0,0;L:..>AA;R:.>A","...")', 'Octal("0.7",3)')
         session = Session()
@@ -238,7 +255,10 @@ class Extras(PageCase):
 
     def sheet(self) -> list[str]:
         """The lines of the worksheet."""
-        return [str(one.get_attribute("value")) for one in self.browser.all("#sheet [data-line]")]
+        found: list[str] = self.browser.script(
+            "return [...document.querySelectorAll('#sheet [data-line]')].map((one) => one.value)"
+        )
+        return found
 
     def test_exports(self) -> None:
         self.open('Domineering("...|...")', "{2|-1}")

@@ -27,9 +27,7 @@ class Page(PageCase):
         )
         self.browser.click(self.cell("a1"))
         self.browser.click("button[aria-label='One column more']")
-        self.assertIn(
-            'Domineering("..#.|#.#.")', self.browser.one(".notation input").get_attribute("value")
-        )
+        self.assertEqual(self.browser.value(".notation input"), 'Domineering("..#.|#.#.")')
         self.browser.value_is(str(Session().value('Domineering("..#.|#.#.")')))
 
     def test_a_move_is_made_and_taken_back(self) -> None:
@@ -61,8 +59,8 @@ class Page(PageCase):
         self.open('Domineering("...|...")')
         self.browser.value_is("{2|-1/2}")
         self.browser.one("#left-moves [data-move='a1-a2'] .why")
-        mark = self.browser.one("#left-moves [data-move='a1-a2'] .why")
-        self.assertEqual(mark.get_attribute("title"), "dominated by b1-b2")
+        why = self.browser.attributes("#left-moves [data-move='a1-a2'] .why", "title")
+        self.assertEqual(why, ["dominated by b1-b2"])
         self.browser.one("#left-moves [data-move='b1-b2'] .wins")
         self.browser.one("#left-moves [data-move='b1-b2'] .hot")
         self.assertIn("Checked", self.browser.text("#checked"))
@@ -119,9 +117,9 @@ class Page(PageCase):
         self.open('Domineering("..|.x")')
         self.browser.one("#trouble")
         self.assertIn("! board symbol 5", self.browser.text("#trouble"))
-        self.assertTrue(
-            self.browser.one(".cell.wrong").get_attribute("aria-label").startswith("b2:")
-        )
+        self.browser.one(".cell.wrong")
+        (wrong,) = self.browser.attributes(".cell.wrong", "aria-label")
+        self.assertTrue(wrong.startswith("b2:"))
         self.open("{2|-1", "1")
         self.browser.until(lambda: "! syntax" in self.browser.text("#trouble"), "the refusal")
         self.assertIn("Part 1", self.browser.text("#trouble"))
@@ -190,9 +188,7 @@ class Page(PageCase):
         self.browser.value_is(str(Session().value('Snort(".x.","ab,bc,ca")')))
         self.browser.click("[data-focus='0:more']")
         self.browser.until(lambda: "x.x" in self.hash(), "a vertex more")
-        self.assertEqual(
-            self.browser.one(".notation input").get_attribute("value"), 'Snort(".x.x","ab,bc,ac")'
-        )
+        self.assertEqual(self.browser.value(".notation input"), 'Snort(".x.x","ab,bc,ac")')
 
     def test_dragging(self) -> None:
         self.open('Domineering("....|....")')

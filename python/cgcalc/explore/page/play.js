@@ -9,9 +9,15 @@ const OTHER = { L: 'R', R: 'L' };
 let clock = null;
 
 export function drawPlay() {
-  const inside = document.querySelector('#play .inside');
+  const play = document.getElementById('play');
   const { game } = state;
-  renew(inside, ...(game ? during(game) : before()));
+  const held = play.contains(document.activeElement);
+  renew(play.querySelector('.inside'), ...(game ? during(game) : before()));
+  const extras = document.getElementById('extras');
+  if (!game === extras.contains(play)) return;
+  if (game) document.getElementById('moves').before(play); // beside the board, as long as it goes on
+  else extras.prepend(play);
+  if (held) play.querySelector('button:not(:disabled)').focus({ preventScroll: true });
 }
 
 function before() {
