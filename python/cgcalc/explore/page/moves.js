@@ -9,6 +9,7 @@ const THEN = { L: 'then Left wins, whoever moves', R: 'then Right wins, whoever 
 const opened = { L: false, R: false };
 
 export function drawMoves() {
+  document.getElementById('choosing').hidden = isVeiled();
   if (!state.moves && !state.listed) {
     for (const list of ['left-moves', 'right-moves']) document.getElementById(list).classList.add('old');
     return;
