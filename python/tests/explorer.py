@@ -119,6 +119,10 @@ class Browser:
         found: list[Any] = self.driver.find_elements("css selector", selector)
         return found
 
+    def value(self, selector: str) -> str:
+        """What the field has that a selector finds."""
+        return str(self.script("return document.querySelector(arguments[0])?.value", selector))
+
     def attributes(self, selector: str, name: str) -> list[str]:
         """An attribute of all that a selector finds, read at once: the page may draw them anew."""
         found: list[str] = self.script(

@@ -14,6 +14,13 @@ from tests.explorer_case import KEYS, PageCase
 from tests.places import ROOT
 
 
+CONTROLS = ("button", "checkbox", "combobox", "gridcell", "image", "link", "radio", "textbox")
+FOCUSED = """const focus = document.activeElement;
+const shown = getComputedStyle(focus.matches('.segments input') ? focus.nextElementSibling : focus);
+return [focus.getAttribute('aria-label') || focus.id || focus.outerHTML,
+  `${shown.outlineStyle} ${shown.outlineWidth}`];"""
+
+
 class Quiet(http.server.SimpleHTTPRequestHandler):
     """Serves a folder, and tells nothing."""
 
@@ -78,10 +85,7 @@ class Extras(PageCase):
     def test_the_study_of_an_endgame(self) -> None:
         self.open("^")
         self.browser.value_is("^")
-        self.browser.script(
-            "const menu = document.getElementById('new'); menu.value = 'endgame';"
-            "menu.dispatchEvent(new Event('change'))"
-        )
+        self.choose_new("endgame")
         session = Session()
         lines = (ROOT / "examples" / "studies" / "endgame.cg").read_text().splitlines()
         for line in lines:
@@ -93,6 +97,29 @@ class Extras(PageCase):
         parts = set(self.browser.attributes(".move:has(.hot)", "data-part"))
         self.assertTrue(hot)
         self.assertEqual(parts, {"3"})  # the hall
+
+    def test_each_control_has_a_name_and_shows_that_it_has_the_focus(self) -> None:
+        self.open('Clobber("xo|ox")', 'Hackenbush("0b1,1r2")', 'Snort("...","ab,bc")', "{2|-1}")
+        self.browser.idle()
+        for name in ("play", "sheet", "save", "help"):
+            self.browser.click(f"#{name} summary")
+        nodes = self.browser.driver.execute_cdp_cmd("Accessibility.getFullAXTree", {})["nodes"]
+        controls = [
+            node
+            for node in nodes
+            if not node["ignored"] and node.get("role", {}).get("value") in CONTROLS
+        ]
+        self.assertGreater(len(controls), 60)
+        nameless = [node for node in controls if not node.get("name", {}).get("value", "").strip()]
+        self.assertEqual(nameless, [])
+        self.browser.script("document.querySelector('.skip').focus()")
+        seen = set()
+        for _ in range(30):
+            self.browser.keys(KEYS["tab"])
+            what, outline = self.browser.script(FOCUSED)
+            self.assertEqual(outline, "solid 3px", what)
+            seen.add(what)
+        self.assertGreater(len(seen), 20, seen)
 
     def test_in_a_frame_of_another_page(self) -> None:
         from cgcalc.explore import explore
@@ -164,10 +191,74 @@ class Extras(PageCase):
             lambda: self.browser.text("#sheet li:nth-child(3) output").startswith("0"), "0"
         )
         self.assertEqual(self.sheet()[:3], ["cg 2", "h := {1|-1}", "value h + h"])
+        with tempfile.TemporaryDirectory() as folder:
+            self.browser.saves_to(folder)
+            self.browser.click("#save-sheet")
+            saved = Path(folder) / "session.cg"
+            self.browser.until(saved.exists, "the session")
+            self.assertEqual(answered(saved.read_text()), (0, "2: +-1\n3: 0\n"))
+
+    def test_the_worksheet_completes_words(self) -> None:
+        self.open("^")
+        self.browser.idle()
+        self.browser.click("#sheet summary")
+        self.browser.click("#sheet [data-line='1']")
+        self.browser.keys("a", held=KEYS["control"])
+        self.browser.keys("th", KEYS["tab"])
+        self.browser.until(lambda: self.sheet()[1] == "thermo ", "the word")
+        self.browser.keys("g", KEYS["enter"])
+        self.browser.until(
+            lambda: "mean" in self.browser.text("#sheet li:nth-child(2) output"), "the answer"
+        )
+
+    def test_each_game_begins_with_a_position_that_is_answered(self) -> None:
+        self.open("^")
+        self.browser.value_is("^")
+        games: list[str] = self.browser.script(
+            "return [...document.querySelectorAll('#new option')].map((one) => one.value)"
+        )
+        self.assertEqual(len(games), 12)  # nine games, other forms, a study, and the menu's name
+        for game in filter(None, games):
+            self.browser.script("document.getElementById('live').textContent = ''")
+            self.choose_new(game)
+            self.browser.until(lambda: self.browser.text("#live").startswith("Value"), game)
+
+    def choose_new(self, game: str) -> None:
+        """Begins a new position."""
+        self.browser.script(
+            "const menu = document.getElementById('new'); menu.value = arguments[0];"
+            "menu.dispatchEvent(new Event('change'))",
+            game,
+        )
+
+    def test_strips_and_heaps(self) -> None:
+        self.open('Strip(".=1,0,0;A=0,0,0;L:..>AA;R:.>A","...")', 'Octal("0.7",3)')
+        session = Session()
+        self.browser.value_is(
+            str(session.value('Strip(".=1,0,0;A=0,0,0;L:..>AA;R:.>A","...") + Octal("0.7",3)'))
+        )
+        self.change("0:rules", ".=1,0,0;A=0,0,0;L:.>A;R:..>AA")
+        self.change("1:code", "0.77")
+        self.change("1:tokens", "5")
+        self.browser.click("#parts .card:nth-of-type(1) [data-focus='0:more Cells']")
+        whole = 'Strip(".=1,0,0;A=0,0,0;L:.>A;R:..>AA","....") + Octal("0.77",5)'
+        self.browser.value_is(str(session.value(whole)))
+        self.browser.choose("#mode", "R")
+        self.browser.click(self.cell("a1"))
+        self.browser.value_is(str(session.value(whole.replace("....", "AA.."))))
+
+    def change(self, field: str, text: str) -> None:
+        """Types a text in a field in place of what it has."""
+        self.browser.click(f"[data-focus='{field}']")
+        self.browser.keys("a", held=KEYS["control"])
+        self.browser.keys(text, KEYS["enter"])
 
     def sheet(self) -> list[str]:
         """The lines of the worksheet."""
-        return [str(one.get_attribute("value")) for one in self.browser.all("#sheet [data-line]")]
+        found: list[str] = self.browser.script(
+            "return [...document.querySelectorAll('#sheet [data-line]')].map((one) => one.value)"
+        )
+        return found
 
     def test_exports(self) -> None:
         self.open('Domineering("...|...")', "{2|-1}")

@@ -27,9 +27,7 @@ class Page(PageCase):
         )
         self.browser.click(self.cell("a1"))
         self.browser.click("button[aria-label='One column more']")
-        self.assertIn(
-            'Domineering("..#.|#.#.")', self.browser.one(".notation input").get_attribute("value")
-        )
+        self.assertEqual(self.browser.value(".notation input"), 'Domineering("..#.|#.#.")')
         self.browser.value_is(str(Session().value('Domineering("..#.|#.#.")')))
 
     def test_a_move_is_made_and_taken_back(self) -> None:
@@ -61,11 +59,37 @@ class Page(PageCase):
         self.open('Domineering("...|...")')
         self.browser.value_is("{2|-1/2}")
         self.browser.one("#left-moves [data-move='a1-a2'] .why")
-        mark = self.browser.one("#left-moves [data-move='a1-a2'] .why")
-        self.assertEqual(mark.get_attribute("title"), "dominated by b1-b2")
+        why = self.browser.attributes("#left-moves [data-move='a1-a2'] .why", "title")
+        self.assertEqual(why, ["dominated by b1-b2"])
         self.browser.one("#left-moves [data-move='b1-b2'] .wins")
         self.browser.one("#left-moves [data-move='b1-b2'] .hot")
         self.assertIn("Checked", self.browser.text("#checked"))
+
+    def test_moves_are_shortened_and_put_in_order(self) -> None:
+        self.open('Domineering("...|...")')
+        self.browser.value_is("{2|-1/2}")
+        shown = {"each": ["a1-a2", "b1-b2"], "canonical": ["b1-b2"], "wins": ["b1-b2"]}
+        for word, names in shown.items():
+            self.browser.choose("#filter", word)
+            self.browser.until(lambda: moves_of(self.browser, "L") == names, word)
+        self.assertEqual(self.browser.text("#left-title"), "Left’s moves (1 of 3)")
+        self.browser.choose("#filter", "all")
+        self.browser.click("#best input")
+        best = ["b1-b2", "a1-a2", "c1-c2"]
+        self.browser.until(lambda: moves_of(self.browser, "L") == best, "the best first")
+
+    def test_the_players_take_turns(self) -> None:
+        self.open('Domineering("...|...")')
+        self.browser.idle()
+        self.browser.choose("#mode", "L")
+        self.browser.click("#turns input")
+        self.browser.click(self.cell("a1"))
+        self.browser.value_is(str(Session().value('Domineering("#..|#..")')))
+        self.browser.click(self.cell("b1"))
+        self.browser.value_is(str(Session().value('Domineering("###|#..")')))
+        self.assertEqual(
+            self.browser.script("return document.querySelector('#mode :checked').value"), "L"
+        )
 
     def test_a_sum(self) -> None:
         self.open(*TWO_ROOMS)
@@ -93,9 +117,9 @@ class Page(PageCase):
         self.open('Domineering("..|.x")')
         self.browser.one("#trouble")
         self.assertIn("! board symbol 5", self.browser.text("#trouble"))
-        self.assertTrue(
-            self.browser.one(".cell.wrong").get_attribute("aria-label").startswith("b2:")
-        )
+        self.browser.one(".cell.wrong")
+        (wrong,) = self.browser.attributes(".cell.wrong", "aria-label")
+        self.assertTrue(wrong.startswith("b2:"))
         self.open("{2|-1", "1")
         self.browser.until(lambda: "! syntax" in self.browser.text("#trouble"), "the refusal")
         self.assertIn("Part 1", self.browser.text("#trouble"))
@@ -124,6 +148,22 @@ class Page(PageCase):
             "nothing that runs",
         )
 
+    def test_moves_are_made_before_their_values_are_known(self) -> None:
+        folder = tempfile.TemporaryDirectory()
+        self.addCleanup(folder.cleanup)
+        server = Server(changes={"CG": program(Path(folder.name), "sleep 60")})
+        self.addCleanup(server.end)
+        self.browser.open(server.link('Toads("TT.FF")'))
+        self.browser.one("#left-moves .move")
+        self.assertIn("isn’t known yet", self.browser.text("#checked"))
+        self.browser.click("#left-moves [data-move='2-3']")
+        self.browser.until(lambda: "T.TFF" in self.hash(), "the move")
+        self.browser.choose("#mode", "R")
+        self.browser.until(lambda: self.browser.all(".cell.can"), "Right's moves")
+        self.browser.click(self.cell("d1"))
+        self.browser.click(self.cell("b1"))
+        self.browser.until(lambda: "TFT.F" in self.hash(), "a move on the board")
+
     def test_drawings(self) -> None:
         self.open('Hackenbush("0b1,1r2")')
         self.browser.value_is("1/2")
@@ -148,9 +188,7 @@ class Page(PageCase):
         self.browser.value_is(str(Session().value('Snort(".x.","ab,bc,ca")')))
         self.browser.click("[data-focus='0:more']")
         self.browser.until(lambda: "x.x" in self.hash(), "a vertex more")
-        self.assertEqual(
-            self.browser.one(".notation input").get_attribute("value"), 'Snort(".x.x","ab,bc,ac")'
-        )
+        self.assertEqual(self.browser.value(".notation input"), 'Snort(".x.x","ab,bc,ac")')
 
     def test_dragging(self) -> None:
         self.open('Domineering("....|....")')
@@ -189,6 +227,11 @@ class Page(PageCase):
         self.browser.script("document.querySelector('#right-moves .move').focus()")
         self.browser.keys(KEYS["enter"])
         self.browser.value_is("-1")
+        self.assertEqual(self.browser.script(focus).split(";")[0], "Right a2-b2")
+        self.browser.script("document.querySelector('[aria-label=\"One row more\"]').focus()")
+        self.browser.keys(KEYS["enter"], KEYS["enter"])
+        self.browser.until(lambda: "%23%23%7C..%7C..%7C.." in self.hash(), "two rows more")
+        self.assertEqual(self.browser.script(focus), "One row more")
 
     def test_both_widths_and_both_schemes(self) -> None:
         for width in (360, 1400):

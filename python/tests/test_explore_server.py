@@ -1,7 +1,6 @@
-"""The explorer's server: what it answers, and what it does with broken requests."""
+"""The explorer's server: what it answers, how it ends, and what the commands tell."""
 from __future__ import annotations
 
-import os
 import re
 import signal
 import socket
@@ -10,18 +9,11 @@ import tempfile
 import threading
 import unittest
 from pathlib import Path
-from typing import Any, ClassVar
+from typing import ClassVar
 
 from cgcalc import Session
 from tests.explorer import Server, children_of
 from tests.places import ROOT, command, ended, environment, program, run, waits
-
-EMPTY = 'Domineering("....|....|....|....")'
-FORTY_MOVES = (
-    (EMPTY, 'Domineering("...|...|...|...")'),
-    ('Amazons("x..|...|..o")',),
-    ('Domineering("....#|.....|.....|.....")', "^"),
-)
 
 
 class Answers(unittest.TestCase):
@@ -116,60 +108,6 @@ class Answers(unittest.TestCase):
             self.assertEqual(names, [one for one in wanted if one[0] != 1])
 
 
-class Speed(unittest.TestCase):
-    """What questions cost. The processor's seconds are counted, since the machine may be busy."""
-
-    def test_forty_moves(self) -> None:
-        for parts in FORTY_MOVES:
-            server = Server()
-            self.addCleanup(server.end)
-            before = seconds_of(server.process.pid)
-            self.assertTrue(server.ask("position", parts=parts)["value"]["name"])
-            told = server.ask("moves", parts=parts)
-            moves = [move for player in "LR" for move in told["moves"][player]]
-            self.assertGreaterEqual(len(moves), 30)
-            self.assertTrue(all("name" in move["value"] for move in moves))
-            self.assertEqual(set(told["checks"]), {"equal"})
-            self.assertLess(seconds_of(server.process.pid) - before, 2.0, parts)
-
-    def test_a_board_takes_few_runs_and_a_kept_answer_none(self) -> None:
-        with tempfile.TemporaryDirectory() as folder:
-            noted = Path(folder) / "runs"
-            counting = program(Path(folder), f'echo run >> {noted}\nexec "$REAL" "$@"')
-            server = Server("--share", "30000", changes={"CG": counting})
-            self.addCleanup(server.end)
-            for parts in ([EMPTY], ["{2|-1}"]):
-                server.ask("position", parts=parts)
-                told = server.ask("moves", parts=parts)
-                server.ask("reasons", parts=parts)
-                runs = len(noted.read_text().split())
-                for word in ("position", "moves", "reasons"):
-                    server.ask(word, parts=parts)
-                self.assertEqual(len(noted.read_text().split()), runs)
-                self.assertLess(runs, 40)
-                self.assertTrue(told["moves"]["L"])
-
-    def test_moves_of_a_board_that_lacks_cells(self) -> None:
-        server = Server("--share", "30000")
-        self.addCleanup(server.end)
-        self.assertEqual(server.ask("position", parts=[EMPTY])["parts"][0]["value"]["kind"], "full")
-        told, session = server.ask("moves", parts=[EMPTY]), Session()
-        self.assertEqual(told["checks"], ["unchecked"])
-        for player in ("L", "R"):
-            self.assertEqual(len(told["moves"][player]), 12)
-            for move in told["moves"][player]:
-                self.assertEqual(move["value"]["name"], str(session.value(move["leaves"][0])))
-                self.assertEqual(move["winner"], session.outcome(move["leaves"][0]))
-        told = server.ask("moves", parts=[EMPTY, "^"])
-        self.assertEqual({move["winner"] for move in told["moves"]["L"]}, {None, "L", "N"})
-
-
-def seconds_of(process: int) -> float:
-    """The processor's seconds that a process and those that it started took."""
-    fields = Path(f"/proc/{process}/stat").read_text().rpartition(")")[2].split()
-    return sum(map(int, fields[11:15])) / os.sysconf("SC_CLK_TCK")
-
-
 def run_program(session: str) -> tuple[int, str, str]:
     """What the bare program answers to a session."""
     from cgcalc import find_program
@@ -203,30 +141,6 @@ class Ends(unittest.TestCase):
             server.ask("position", parts=["^"])
         except (AssertionError, OSError, ValueError):
             pass
-
-    def test_a_question_is_stopped_by_its_name_and_by_the_clock(self) -> None:
-        self.assertEqual(self.stopped("60", stops=True), "you stopped it")
-        self.assertEqual(self.stopped("2", stops=False), "it took more than 2 seconds")
-
-    def stopped(self, seconds: str, stops: bool) -> str:
-        """Why a question got no answer that would take a minute."""
-        told: list[Any] = []
-        with tempfile.TemporaryDirectory() as folder:
-            slow = program(Path(folder), 'sleep 60\nexec "$REAL" "$@"')
-            server = Server("--timeout", seconds, changes={"CG": slow})
-            self.addCleanup(server.end)
-
-            def ask() -> None:
-                told.append(server.send("POST", "/ask/position", {"id": "one", "parts": ["^"]})[1])
-
-            asking = threading.Thread(target=ask)
-            asking.start()
-            if stops:
-                self.assertTrue(waits(lambda: bool(children_of(server.process.pid))))
-                self.assertTrue(server.send("POST", "/ask/stop", {"id": "one"})[1]["stopped"])
-            asking.join(50)
-            self.assertTrue(waits(lambda: not children_of(server.process.pid)))
-        return str(told[0]["stopped"])
 
     def test_words(self) -> None:
         status, written, told = run("cg-explore", ["--port", "70000"])

@@ -173,7 +173,7 @@ class Asking(Executor):
         """
         asked, most = questions_in(lines), self.limits.share
         found = {line: self._desk.kept.get(line, self.limits) for line in asked}
-        for share in (*sorted({share for share in first if share < most}), most):
+        for share in (*sorted({share for share in first if 0 < share < most}), most):
             wanting = [line for line, answer in found.items() if answer is None]
             found.update(self._kept(wanting, share))
         answers = [answer for answer in (found[line] for line in asked) if answer is not None]
@@ -187,7 +187,7 @@ class Asking(Executor):
         """
         small, shares = most // 16, [most // 4, most]
         fresh = [line for line in lines if self._desk.kept.get(line, self.limits) is None]
-        if len(fresh) * shares[0] > CELLS_AT_ONCE:
+        if small and len(fresh) * shares[0] > CELLS_AT_ONCE:
             some = fresh[:: max(len(fresh) // TRIED_FIRST, 1)][:TRIED_FIRST]
             answered = self._kept(some, small)
             if 2 * len(answered) >= len(some):
@@ -214,7 +214,7 @@ class Asking(Executor):
             CELLS,
             runs,
             self._desk.program,
-            self.limits.seconds,
+            None,  # the request's clock ends its runs
             self.limits.memory,
             self,
         )

@@ -27,8 +27,8 @@ LIMITED = {
     " cg-explore with --positions and a larger number.",
     "full": "The limit is {share:,} cells of the table. Try again with four times as much, or start"
     " cg-explore with --share and a larger number.",
-    "failed": "The limits are {seconds:g} seconds and {memory:,} bytes. Try again with four times"
-    " as much, or start cg-explore with --timeout and --memory and larger numbers.",
+    "failed": "The limits are {seconds:g} seconds and {memory:,} bytes of memory. Try again with"
+    " four times as much, or start cg-explore with --timeout and --memory and larger numbers.",
 }
 LONGEST_NAME = 20_000
 DEEPEST_NAME = 60

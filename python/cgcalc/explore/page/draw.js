@@ -48,12 +48,25 @@ function grid(part, marked) {
   const rows = rowsOf(part);
   const width = Math.max(...rows.map((row) => row.length));
   const svg = frame(width * CELL + 4, rows.length * CELL + 4);
+  const last = [];
   rows.forEach((row, down) => [...row].forEach((symbol, right) => {
     const [x, y] = [2 + right * CELL, 2 + down * CELL];
-    const kind = `cell${symbol === '#' ? ' filled' : ''}${marked.has(cellName(down, right)) ? ' changed' : ''}`;
-    svg.append(make('rect', { x, y, width: CELL, height: CELL, class: kind }));
-    svg.append(...symbolDrawn(part.game, symbol, x + CELL / 2, y + CELL / 2, CELL));
+    const changed = marked.has(cellName(down, right));
+    const kind = `cell${symbol === '#' ? ' filled' : ''}${changed ? ' changed' : ''}`;
+    const drawn = [make('rect', { x, y, width: CELL, height: CELL, class: kind }), ...symbolDrawn(part.game, symbol, x + CELL / 2, y + CELL / 2, CELL)];
+    if (changed) last.push(...drawn);
+    else svg.append(...drawn);
   }));
+  svg.append(...last);
+  return svg;
+}
+
+// A game that is no board, for pictures: its text.
+export function textPicture(text) {
+  const svg = frame(text.length * 9 + 12, 28);
+  const shown = make('text', { x: text.length * 4.5 + 6, y: 19, class: 'form' });
+  shown.textContent = text;
+  svg.append(shown);
   return svg;
 }
 

@@ -10,7 +10,7 @@ export const GAMES = {
     left: 'fills two empty cells, one above the other', right: 'fills two empty cells side by side' },
   Clobber: { kind: 'grid', symbols: { x: 'Left', o: 'Right', '.': 'empty' }, fill: '.', start: ['xoxo|oxox|xoxo'],
     left: 'moves an x onto an o beside it, which is removed', right: 'moves an o onto an x beside it, which is removed' },
-  Amazons: { kind: 'grid', symbols: { '.': 'empty', x: 'Left', o: 'Right', '#': 'blocked' }, fill: '.', start: ['x...|...o|....'],
+  Amazons: { kind: 'grid', symbols: { '.': 'empty', x: 'Left', o: 'Right', '#': 'blocked' }, fill: '.', start: ['x..|...|..o'],
     left: 'moves an x as a queen and shoots an arrow from there', right: 'moves an o as a queen and shoots an arrow from there' },
   Toads: { kind: 'row', symbols: { '.': 'empty', T: 'toad', F: 'frog' }, fill: '.', start: ['TTT..FFF'],
     left: 'moves a toad to the right, or over one frog', right: 'moves a frog to the left, or over one toad' },

@@ -9,6 +9,7 @@ const THEN = { L: 'then Left wins, whoever moves', R: 'then Right wins, whoever 
 const opened = { L: false, R: false };
 
 export function drawMoves() {
+  document.getElementById('choosing').hidden = isVeiled();
   if (!state.moves && !state.listed) {
     for (const list of ['left-moves', 'right-moves']) document.getElementById(list).classList.add('old');
     return;
@@ -132,7 +133,7 @@ function valueWords(move) {
 
 function marksOf(move, reason) {
   const marks = [];
-  if (move.wins) marks.push({ kind: 'wins', text: 'wins', title: `a winning move: ${THEN[move.winner]}` });
+  if (move.wins) marks.push({ kind: 'wins', text: 'wins', title: 'a winning move' });
   if (move.hottest) marks.push({ kind: 'hot', text: 'hottest', title: 'best at the greatest temperature' });
   if (reason) {
     const text = `${reason.why} ${reason.word} ${reason.by}`;

@@ -9,9 +9,15 @@ const OTHER = { L: 'R', R: 'L' };
 let clock = null;
 
 export function drawPlay() {
-  const inside = document.querySelector('#play .inside');
+  const play = document.getElementById('play');
   const { game } = state;
-  renew(inside, ...(game ? during(game) : before()));
+  const held = play.contains(document.activeElement);
+  renew(play.querySelector('.inside'), ...(game ? during(game) : before()));
+  const extras = document.getElementById('extras');
+  if (!game === extras.contains(play)) return;
+  if (game) document.getElementById('moves').before(play); // beside the board, as long as it goes on
+  else extras.prepend(play);
+  if (held) play.querySelector('button:not(:disabled)').focus({ preventScroll: true });
 }
 
 function before() {
@@ -109,9 +115,14 @@ function hint() {
   const winning = moves.filter((move) => move.wins);
   const at = state.moves.choice[game.person];
   if (at === null || at === undefined) game.said = 'This position is too large for a hint.';
-  else if (winning.length) game.said = `You win with ${nameOf(moves[at])}${winning.length > 1 ? `, and with ${winning.length - 1} other moves marked “wins”` : ''}.`;
+  else if (winning.length) game.said = `You win with ${nameOf(moves[at])}${othersOf(winning.length - 1)}.`;
   else game.said = `No move wins. The best stop is left by ${nameOf(moves[at])}.`;
   drawPlay();
+}
+
+function othersOf(count) {
+  if (!count) return '';
+  return `, and with ${count} other move${count > 1 ? 's' : ''} marked “wins”`;
 }
 
 function nameOf(move) {

@@ -1,5 +1,5 @@
 // What can be taken along: an address, pictures, LaTeX, Python text, a session.
-import { picture } from './draw.js';
+import { make, picture, textPicture } from './draw.js';
 import { pythonOf } from './games.js';
 import { element, now, renew, state, toast } from './state.js';
 
@@ -8,7 +8,7 @@ const STYLE = `.cell{fill:#fff;stroke:#555}.cell.filled{fill:#8a8f98}.stone.left
 .stone.right circle,.vertex.right,.toad.right{fill:#c4501b}.stone circle,.vertex{stroke:#222}.stone .sign{fill:none;stroke:#fff;stroke-width:2}
 .stone.right circle.sign,.ring{fill:none;stroke:#fff;stroke-width:2}.vertex.free{fill:#fff}.letter{font:bold 12px sans-serif;text-anchor:middle;fill:#222}.letter.on{fill:#fff}
 .edge{fill:none;stroke-width:5;stroke-linecap:round}.edge.blue{stroke:#1f5fbf}.edge.red{stroke:#c4501b;stroke-dasharray:11 6}.edge.green{stroke:#2e8b57;stroke-dasharray:1 8}
-.ground{stroke:#222;stroke-width:3}.node{fill:#222}.link{stroke:#222;stroke-width:2}.token{fill:#2e8b57;stroke:#222}`;
+.form{font:15px monospace;text-anchor:middle;fill:#222}.ground{stroke:#222;stroke-width:3}.node{fill:#222}.link{stroke:#222;stroke-width:2}.token{fill:#2e8b57;stroke:#222}`;
 
 export function download(name, content, type = 'text/plain') {
   const blob = content instanceof Blob ? content : new Blob([content], { type });
@@ -41,7 +41,7 @@ export function positionOf(hash) {
 
 // All parts of the position in one picture.
 export function positionPicture() {
-  const drawn = now().parts.map((text, at) => picture(text, { places: now().places[at] })).filter(Boolean);
+  const drawn = now().parts.map((text, at) => picture(text, { places: now().places[at] }) || textPicture(text));
   if (!drawn.length) return null;
   const sizes = drawn.map((one) => [Number(one.getAttribute('width')), Number(one.getAttribute('height'))]);
   const whole = document.createElementNS('http://www.w3.org/2000/svg', 'svg');
@@ -55,6 +55,10 @@ export function positionPicture() {
   drawn.forEach((one, at) => {
     one.setAttribute('x', x);
     one.setAttribute('y', (height - sizes[at][1]) / 2);
+    if (at) {
+      whole.append(make('text', { x: x - 12, y: height / 2 + 5, class: 'form' }));
+      whole.lastChild.textContent = '+';
+    }
     whole.append(one);
     x += sizes[at][0] + 24;
   });

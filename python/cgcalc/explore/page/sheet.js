@@ -91,9 +91,14 @@ export async function answer() {
   const told = await ask('lines', { lines: lines.map(({ text }) => text) }).catch((error) => ({ error: error.message }));
   if (told.error || told.stopped) toast(told.error || `No answers: ${told.stopped}.`);
   else told.answers.forEach((one, at) => { if (lines[at]) lines[at].answer = one; });
-  const focus = document.activeElement?.getAttribute('data-line');
-  drawSheet();
-  if (focus) document.querySelector(`#sheet [data-line="${focus}"]`)?.focus();
+  showAnswers();
+}
+
+// Who types meanwhile goes on: only the answers are drawn anew, where there are no more lines than before.
+function showAnswers() {
+  const shown = document.querySelectorAll('#sheet .lines output');
+  if (shown.length !== lines.length) drawSheet();
+  else shown.forEach((output, at) => output.replaceWith(answerShown(lines[at].answer, lines[at].text)));
 }
 
 export function openSheet() {
@@ -107,6 +112,7 @@ function usePosition() {
   const text = `${name} := ${state.answer?.expression || now().parts.join(' + ') || '0'}`;
   if (lines.length && !lines.at(-1).text.trim()) lines.pop();
   lines.push({ text, answer: null }, { text: '', answer: null });
+  drawSheet();
   answer();
 }
 
@@ -121,5 +127,6 @@ async function load(event) {
   const texts = (await file.text()).split('\n').map((line) => line.replace(/\r$/, '')).filter((line) => line.trim());
   if (texts.length > 199) toast('A worksheet has at most 200 lines; the first of the file are taken.');
   lines = [...texts.slice(0, 199), ''].map((text) => ({ text, answer: null }));
+  drawSheet();
   answer();
 }
