@@ -91,7 +91,7 @@ class BadUse(Tried):
         documents = {"check-examples": [self.page(GOOD_PAGE)]}
         for name in ("check-examples", "check-python", "check-formal", "check-tools", "check-words", "compare-reference",
                      "compare-workers", "refuse-allocations", "refuse-input-output", "stack-bound", "memory-bound",
-                     "fuzz-sessions", "bench", "board-sizes", "worst-inputs"):
+                     "fuzz-sessions", "bench", "board-sizes", "worst-inputs", "search-inputs"):
             with self.subTest(name=name):
                 self.fails("/nowhere isn't built", name, *documents.get(name, []), program="/nowhere", status=2)
 

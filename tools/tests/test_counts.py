@@ -1,5 +1,6 @@
-"""bench --check, memory-bound and compare-workers --long fail on what they are there for."""
+"""bench --check, search-inputs, memory-bound and compare-workers --long fail on what they are there for."""
 import os
+import shutil
 import unittest
 
 from test_checks import Tried
@@ -59,6 +60,22 @@ class Instructions(Tried):
         self.check(top, 1, f"{NAME}: status 3", program=self.program("exit 3"))
         self.fails("valgrind isn't there", "bench", "--check", path="/nowhere", status=2)
         self.fails("0 sessions", "bench", "--check", "--only", "no such session")
+
+
+class Search(Tried):
+    """search-inputs, with a program that breaks."""
+
+    def test_a_session_that_breaks_the_program(self):
+        self.fails("status -11: ", "search-inputs", "0.02", program=self.program("kill -11 $$"))
+        self.fails("status 3: ", "search-inputs", "0.02", program=self.program("exit 3"))
+
+    def test_what_is_found(self):
+        ended, written = self.run_tool("search-inputs", "0.05")
+        self.assertEqual(ended, 0, written)
+        self.assertRegex(written, r"1: \d+ bytes, -?[\d,.]+ microseconds each: ")
+        folder = written.split()[-1]
+        self.addCleanup(shutil.rmtree, folder)
+        self.assertIn("1.txt", os.listdir(folder))
 
 
 class Memory(Tried):
