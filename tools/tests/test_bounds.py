@@ -143,7 +143,8 @@ class Stack(Tried):
                                   ("behind", "enter $8,$0", "enter  $0x8,$0x0"),
                                   ("behind", "3: push %rax; jmp 3b", endless + "push"),
                                   ("behind", "mov %rsp,%rbp", "48 bytes that stay: ret"),
-                                  ("behind", "ret", "56 bytes that stay: ret"), ("behind", "jmp *%rdi", "jmp    *%rdi")):
+                                  ("behind", "ret", "56 bytes that stay: ret"), ("behind", "ret $8", "ret    $0x8"),
+                                  ("behind", "3: loop 3b", "loop"), ("behind", "jmp *%rdi", "jmp    *%rdi")):
             with self.subTest(words=words):
                 program = self.probed(**{"size": "mov $48,%eax", part: words})
                 self.fails("main has what can't be read: " + told, "stack-bound", program=program)
