@@ -38,7 +38,9 @@ SLOW = {
 }
 SMALLER = {
     "a multiple of a hot game": ["--cells", "400009"], "a multiple of a hot game with star": ["--cells", "400009"],
-    "difference of hot games": ["--positions", "4096"], "sums of ups and a nimber as options": ["--cells", "400009"],
+    "a multiple of star": ["--cells", "400009"], "amazons 3x4": ["--positions", "16384"],
+    "difference of hot games": ["--positions", "4096"], "eight boards of clobber 8x8": ["--positions", "16384"],
+    "sums of ups and a nimber as options": ["--cells", "400009"], "two boards of domineering 8x8": ["--positions", "16384"],
 }
 
 

@@ -610,7 +610,8 @@ class Gate(Tried):
         self.assertEqual(ended, 0)
         for name in ("install-packages", "check-lint", "check-pages", "check-claims", "make-manual", "check-examples",
                      "check-python", "check-formal", "check-tools", "compare-reference", "check-words", "compare-workers",
-                     "refuse-allocations", "refuse-input-output", "stack-bound", "memory-bound", "check-style"):
+                     "refuse-allocations", "refuse-input-output", "stack-bound", "memory-bound", "bench",
+                     "check-style"):
             with self.subTest(name=name):
                 self.assertIn(name, steps)
                 ended, _, ran = self.gate(ends=[name])
