@@ -13,6 +13,7 @@ from command import PROGRAM, TOOLS
 
 STORED = os.path.join(TOOLS, "instructions.txt")
 MORE, LESS = 1.05, 0.90
+SLACK = 2_000  # some hundred instructions differ from run to run
 FRONT = """# How many instructions each session takes beyond `value 0`, with one worker, by valgrind. tools/bench --check compares
 # these numbers with what the built program takes; tools/bench --store writes them, and the commit that changes them says why.
 """
@@ -65,10 +66,12 @@ class Miscounted(Exception):
 
 def instructions(words, data):
     """How many instructions a run with one worker takes. Neither the environment nor the path of the program changes that."""
-    with tempfile.TemporaryDirectory() as folder:
+    with tempfile.TemporaryDirectory() as folder, tempfile.TemporaryFile() as given:
+        given.write(data)
+        given.seek(0)
         os.symlink(PROGRAM, os.path.join(folder, "cg"))
         command = ["valgrind", "--tool=cachegrind", "--cache-sim=no", "--cachegrind-out-file=/dev/null", "./cg", "--workers", "1"]
-        done = subprocess.run([*command, *words], input=data, stdout=subprocess.DEVNULL, stderr=subprocess.PIPE, check=False,
+        done = subprocess.run([*command, *words], stdin=given, stdout=subprocess.DEVNULL, stderr=subprocess.PIPE, check=False,
                               cwd=folder, env=ENVIRONMENT)
     counted = re.search(r"I +refs: +([\d,]+)", done.stderr.decode("utf-8", "replace"))
     if done.returncode not in (0, 1) or not counted:
@@ -123,9 +126,9 @@ def compared(found, known):
             yield f"{name}: {number}"
         elif name not in known:
             yield f"{name}: {number:,} instructions, and no number is stored (tools/bench --store)"
-        elif number > MORE * known[name]:
+        elif number > MORE * known[name] + SLACK:
             yield f"{name}: {number:,} instructions are {number / known[name]:.3f} of the {known[name]:,} that are stored"
-        elif number < LESS * known[name]:
+        elif number < LESS * known[name] - SLACK:
             yield (f"{name}: {number:,} instructions are {number / known[name]:.3f} of the {known[name]:,} that are stored: write "
                    "the better number (tools/bench --store)")
 
