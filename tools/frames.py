@@ -2,7 +2,9 @@
 
 Each way through a function is gone from its first instruction on, and with it goes what is known of each register: how far it is
 from where the stack pointer was at the start, that it is a number, or an address in a table of jumps. So what an instruction does
-to the stack pointer is known, or the function is told as one that can't be read. All instructions are of x86-64.
+to the stack pointer is known, or the function is told as one that can't be read. All instructions are of x86-64. A call is taken
+to give back the registers that calls give back (rbx, rbp, r12 to r15); that the stack pointer comes back is looked at in each
+function that is read.
 """
 import re
 import struct
@@ -21,6 +23,8 @@ INDIRECT = re.compile(r"^jmp +\*%(\w+)$")
 PREFIX = re.compile(r"^((bnd|notrack|data16|cs|lock|repz?|repn[ez]) +)+")
 # What may stand where no way leads: between functions, and behind a call that doesn't come back.
 PADDING = ("nop", "int3", "ud2", "xchg   %ax,%ax", "hlt")
+# Instructions that go on elsewhere, or return more than an address: no compiler is known to write them.
+UNREAD = re.compile(r"loop|xbegin|iret|sysret|l?ret[a-z]* +\$|lret|ljmp|lcall")
 
 
 class Function:
@@ -130,7 +134,9 @@ class Reading:
         words, function, behind = self.code.words[address], self.function, self.code.behind.get(address)
         below = BELOW.search(words) if "-0x" in words and not words.startswith("lea") else None
         function.bytes = max(function.bytes, ADDRESS + depth(known.values[STACK]) + (int(below[1], 16) if below else 0))
-        if words.startswith(("j", "call")):
+        if UNREAD.match(words):
+            go_on = self.refuse(address)
+        elif words.startswith(("j", "call")):
             direct = DIRECT.match(words)
             go_on = self.jump(address, known, direct[1], int(direct[2], 16)) if direct else self.by_pointer(address, known)
         elif words.startswith("ret"):

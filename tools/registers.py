@@ -1,9 +1,9 @@
 """What is known of the registers on a way through a function of x86-64, and how each instruction changes that.
 
-A value is a tuple. ("stack", 0, 0, n) is n bytes above where the stack pointer was when the function began; ("stack", a, b, n) is n
-bytes above where the instruction at a had aligned it to, which is at most b bytes below that. ("number", n) is a number, ("address",
-a) one in the program, ("entry", a) was read from the table of jumps at a, and ("target", a) is where such an entry leads. What isn't
-known isn't kept.
+A value is a tuple. ("stack", 0, 0, n) is n bytes above where the stack pointer was when the function began; ("stack", a, b, n) is
+n bytes above where the instruction at a had aligned it to, which is at most b bytes below that. ("number", n) is a number,
+("address", a) one in the program, ("entry", a) was read from the table of jumps at a, and ("target", a) is where such an entry
+leads. What isn't known isn't kept.
 """
 import functools
 import re
@@ -143,7 +143,8 @@ def written(known, text, word, operands, address):
         return sum_of(last, first)
     if word == "sub":
         return shifted(last, -first[1] if first and first[0] == "number" else None)
-    if word == "xor" and operands[0] == operands[-1] and (operands[0][1:] in HALVES or operands[0][1:] == NAMES.get(operands[0][1:])):
+    name = operands[0][1:]
+    if word == "xor" and operands[0] == operands[-1] and (name in HALVES or name == NAMES.get(name)):
         return "number", 0
     return masked(last, first, address) if word == "and" else None
 

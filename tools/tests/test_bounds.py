@@ -69,9 +69,16 @@ main:
     pop %rbp
     ret
 """
-# A function of a thousand ways, which ends where a table says.
-SWITCH = "int g(int);\nint main(int n, char **w) {\n    switch (n) {\n" + "".join(
-    f"    case {n}: return g({n * n % 77}) + {n};\n" for n in range(20)) + "    }\n    return 0;\n}\nint g(int n) { return n + 1; }\n"
+# A function of many ways, which a table lists.
+CASES = "".join(f"    case {n}: return g({n * n % 77}) + {n};\n" for n in range(20))
+SWITCH = f"""int g(int);
+int main(int n, char **w) {{
+    switch (n) {{
+{CASES}    }}
+    return 0;
+}}
+int g(int n) {{ return n + 1; }}
+"""
 
 
 class Stack(Tried):
@@ -128,14 +135,19 @@ class Stack(Tried):
             program = self.probed(size)
             self.fails(f"the first thread needs at most {told + 65_536:,} bytes", "stack-bound", program=program)
             self.assertNotIn("can't be read", self.run_tool("stack-bound", program=program)[1])
-        for given, told in (({"size": "mov %rdi,%rax"}, "a stack pointer that goes on and on: cmp"), ({"end": "mov %rdi,%rsp"}, "mov    %rdi,%rsp"),
-                            ({"behind": "sub %rdi,%rsp"}, "sub    %rdi,%rsp"), ({"behind": "mov 8(%rbp),%rsp"}, "mov    0x8(%rbp),%rsp"),
-                            ({"behind": "xchg %rdi,%rsp"}, "xchg   %rdi,%rsp"), ({"behind": "enter $8,$0"}, "enter  $0x8,$0x0"),
-                            ({"behind": "3: push %rax; jmp 3b"}, "a stack pointer that goes on and on: push"),
-                            ({"behind": "mov %rsp,%rbp"}, "48 bytes that stay: ret"), ({"behind": "ret"}, "56 bytes that stay: ret"),
-                            ({"behind": "jmp *%rdi"}, "jmp    *%rdi")):
-            with self.subTest(given=given):
-                self.fails("main has what can't be read: " + told, "stack-bound", program=self.probed(**{"size": "mov $48,%eax", **given}))
+        endless = "a stack pointer that goes on and on: "
+        for part, words, told in (("size", "mov %rdi,%rax", endless + "cmp"), ("end", "mov %rdi,%rsp", "mov    %rdi,%rsp"),
+                                  ("behind", "sub %rdi,%rsp", "sub    %rdi,%rsp"),
+                                  ("behind", "mov 8(%rbp),%rsp", "mov    0x8(%rbp),%rsp"),
+                                  ("behind", "xchg %rdi,%rsp", "xchg   %rdi,%rsp"),
+                                  ("behind", "enter $8,$0", "enter  $0x8,$0x0"),
+                                  ("behind", "3: push %rax; jmp 3b", endless + "push"),
+                                  ("behind", "mov %rsp,%rbp", "48 bytes that stay: ret"),
+                                  ("behind", "ret", "56 bytes that stay: ret"), ("behind", "ret $8", "ret    $0x8"),
+                                  ("behind", "3: loop 3b", "loop"), ("behind", "jmp *%rdi", "jmp    *%rdi")):
+            with self.subTest(words=words):
+                program = self.probed(**{"size": "mov $48,%eax", part: words})
+                self.fails("main has what can't be read: " + told, "stack-bound", program=program)
 
     def test_each_way_is_gone(self):
         """A function whose ways a table lists is read whole; instructions that no way reaches are told."""

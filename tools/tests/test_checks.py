@@ -90,8 +90,8 @@ class BadUse(Tried):
     def test_a_program_that_is_not_there(self):
         documents = {"check-examples": [self.page(GOOD_PAGE)]}
         for name in ("check-examples", "check-python", "check-formal", "check-tools", "check-words", "compare-reference",
-                     "compare-workers", "refuse-allocations", "refuse-input-output", "stack-bound", "fuzz-sessions", "bench",
-                     "board-sizes", "worst-inputs"):
+                     "compare-workers", "refuse-allocations", "refuse-input-output", "stack-bound", "memory-bound",
+                     "fuzz-sessions", "bench", "board-sizes", "worst-inputs", "search-inputs"):
             with self.subTest(name=name):
                 self.fails("/nowhere isn't built", name, *documents.get(name, []), program="/nowhere", status=2)
 
@@ -610,7 +610,8 @@ class Gate(Tried):
         self.assertEqual(ended, 0)
         for name in ("install-packages", "check-lint", "check-pages", "check-claims", "make-manual", "check-examples",
                      "check-python", "check-formal", "check-tools", "compare-reference", "check-words", "compare-workers",
-                     "refuse-allocations", "refuse-input-output", "check-style"):
+                     "refuse-allocations", "refuse-input-output", "stack-bound", "memory-bound", "bench",
+                     "check-style"):
             with self.subTest(name=name):
                 self.assertIn(name, steps)
                 ended, _, ran = self.gate(ends=[name])
