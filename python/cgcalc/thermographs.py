@@ -7,6 +7,7 @@ from numbers import Rational
 from typing import NamedTuple, Optional, Union
 
 from cgcalc.errors import WrongCall
+from cgcalc.exact import exact_number
 from cgcalc.pictures import thermograph_picture
 from cgcalc.tikz import tikz_of
 
@@ -86,8 +87,9 @@ class Thermograph:
 
 
 def _temperature(number: Union[Rational, int, float]) -> Fraction:
+    exact = exact_number(number)
     try:
-        temperature = Fraction(number)
+        temperature = Fraction(number) if exact is None else exact
     except (TypeError, ValueError, OverflowError):
         raise WrongCall(f"a temperature is a number, not {number!r}") from None
     if temperature < 0:

@@ -67,6 +67,7 @@ def test_numbers_of_other_packages() -> None:
     assert str(Game("^") + half) == "^ + 1/2" and str(three * Game("^")) == "3.^"
     assert str(game(three, half)) == "{3|1/2}" and Game("^") < three
     assert octal("0.77", three).value == Value("*3")
+    assert Game("{2|-1}").thermograph.at(half).left == Fraction(3, 2)
     sizes: Any = [Index(2), 3]
     table = Session().table("value {rows}", rows=sizes)
     assert [str(reply) for reply in table.replies] == ["2", "3"]
