@@ -41,7 +41,7 @@ class Speed(unittest.TestCase):
             self.assertGreaterEqual(len(moves), 30)
             self.assertTrue(all("name" in move["value"] for move in moves))
             self.assertEqual(set(told["checks"]), {"equal"})
-            self.assertLess(seconds_of(server.process.pid) - before, 2.0, parts)
+            self.assertLess(seconds_of(server.process.pid) - before, 1.0, parts)
 
     def test_a_board_takes_few_runs_and_a_kept_answer_none(self) -> None:
         with tempfile.TemporaryDirectory() as folder:
@@ -59,6 +59,18 @@ class Speed(unittest.TestCase):
                 self.assertEqual(len(noted.read_text().split()), runs)
                 self.assertLess(runs, 40)
                 self.assertTrue(told["moves"]["L"])
+
+    def test_a_sum_that_is_too_large(self) -> None:
+        server = Server()
+        self.addCleanup(server.end)
+        before = seconds_of(server.process.pid)
+        parts = [f"{{{2**n}|-{3**n}}}" for n in range(16)]
+        told = server.ask("position", parts=parts)
+        self.assertEqual(told["value"]["kind"], "positions")
+        told = server.ask("moves", parts=parts)["moves"]["R"]
+        self.assertEqual([one["value"]["name"] for one in told], [str(-(3**n)) for n in range(16)])
+        self.assertEqual({one["wins"] for one in told}, {None})
+        self.assertLess(seconds_of(server.process.pid) - before, 4.0)
 
     def test_moves_of_a_board_that_lacks_cells(self) -> None:
         server = Server("--share", "30000")

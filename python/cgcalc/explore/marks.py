@@ -22,6 +22,8 @@ from cgcalc.thermographs import Thermograph
 WINS = {"L": ("L", "P"), "R": ("R", "P")}
 """The outcomes that a player wants to leave behind."""
 UNCHECKED = "unchecked"
+TRIED = 4
+"""How many sums are tried, where the whole is too large, before all are asked."""
 
 
 def added(first: str, second: str) -> str:
@@ -65,13 +67,24 @@ class Lists:
 
     def _sums(self, moves: Sequence[SumMove], asking: Asking) -> dict[SumMove, str]:
         """For each move the sum that it leaves, where all parts of that have values."""
-        rests = self._rests(asking) if moves else []
+        if not moves or self._is_too_large(moves, asking):
+            return {}
+        rests = self._rests(asking)
         found = {}
         for move in moves:
             name, rest = self.names.get(closed_sum(move.leaves)), rests[move.part]
             if name is not None and rest is not None:
                 found[move] = added(name, rest)
         return found
+
+    def _is_too_large(self, moves: Sequence[SumMove], asking: Asking) -> bool:
+        """Whether the whole is refused, and so are the sums that some of the moves leave."""
+        if self.shown.is_bad or winner_of(asking.ask([f"outcome {self.shown.whole}"])[0]):
+            return False
+        left = [(self.names.get(closed_sum(move.leaves)), move.part) for move in moves]
+        sums = [added(name, self.shown.rest(part)) for name, part in left if name is not None]
+        some = sums[:: max(len(sums) // TRIED, 1)][:TRIED]
+        return not any(map(winner_of, asking.ask([f"outcome {text}" for text in some])))
 
     def _rests(self, asking: Asking) -> list[Optional[str]]:
         """For each part the other parts, added up, or None where one of them has no value."""
