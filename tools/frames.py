@@ -89,10 +89,10 @@ class Code:
         return to == name or to.partition(" at ")[0].endswith(".cold")
 
     def table(self, start, name):
-        """The addresses in a table of jumps: as many as stay in the function."""
+        """The addresses in a table of jumps: as many as stay in the function. Where nothing leads, a table may have 0."""
         found, at = set(), start
-        while (entry := self.image.number(at)) is not None and self.stays(start + entry, name):
-            found.add(start + entry)
+        while (entry := self.image.number(at)) is not None and (entry == 0 or self.stays(start + entry, name)):
+            found |= {start + entry} if entry else set()
             at += 4
         return found
 
@@ -196,9 +196,10 @@ class Reading:
             return False
         register = INDIRECT.match(words)
         target = known.values.get(register[1]) if register else None
-        found = self.code.table(target[1], self.name) if target and target[0] == "target" else set()
-        if not found:
+        tables = [self.code.table(start, self.name) for start in target[1]] if target and target[0] == "target" else []
+        if not tables or not all(tables):
             self.refuse(address)
+        found = set().union(*tables)
         self.code.leaders |= found
         self.work += [(to, known.copy()) for to in found]
         return False
