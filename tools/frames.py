@@ -89,10 +89,10 @@ class Code:
         return to == name or to.partition(" at ")[0].endswith(".cold")
 
     def table(self, start, name):
-        """The addresses in a table of jumps: as many as stay in the function."""
+        """The addresses in a table of jumps: as many as stay in the function. Where nothing leads, a table may have 0."""
         found, at = set(), start
-        while (entry := self.image.number(at)) is not None and self.stays(start + entry, name):
-            found.add(start + entry)
+        while (entry := self.image.number(at)) is not None and (entry == 0 or self.stays(start + entry, name)):
+            found |= {start + entry} if entry else set()
             at += 4
         return found
 
@@ -101,7 +101,7 @@ class Reading:
     """How a function is read: way by way, with what is known where ways meet by the place of the stack pointer."""
 
     def __init__(self, code, start):
-        self.code, self.name, self.function = code, code.begins[start], Function()
+        self.code, self.name, self.function = code, code.of[start], Function()
         self.seen, self.passed, self.met = set(), set(), {}
         self.work = [(start, Known())]
         while self.work:
@@ -166,8 +166,10 @@ class Reading:
         """Reads a call or a jump to a place that the instruction names; whether the way goes on behind it."""
         name, stays = self.code.begins.get(to), self.code.stays(to, self.name)
         if word == "call" or not stays:
-            if name is None:
-                self.refuse(address, "the middle of a function: ")
+            if name is None and to in self.code.words:  # a function that has no name of its own
+                name = self.code.begins[to] = f"{self.code.of[to]} from {to:x}"
+            if name is None or word != "call" and known.values[STACK] != START:
+                self.refuse(address, "a way out of the function: ")
             self.function.calls.add(name)
             self.function.makes_threads |= name == "pthread_create@plt"
         if word == "call":
@@ -194,9 +196,10 @@ class Reading:
             return False
         register = INDIRECT.match(words)
         target = known.values.get(register[1]) if register else None
-        found = self.code.table(target[1], self.name) if target and target[0] == "target" else set()
-        if not found:
+        tables = [self.code.table(start, self.name) for start in target[1]] if target and target[0] == "target" else []
+        if not tables or not all(tables):
             self.refuse(address)
+        found = set().union(*tables)
         self.code.leaders |= found
         self.work += [(to, known.copy()) for to in found]
         return False
@@ -210,15 +213,21 @@ def is_linkage(name):
 def read_code(code):
     """The functions of a program, by their names. An instruction that no way reaches counts as one that can't be read."""
     functions, reached = {}, set()
-    for address, name in code.begins.items():
-        if not is_linkage(name) and ".cold" not in name and address in code.words:
-            reading = Reading(code, address)
-            functions[name] = reading.function
-            reached |= reading.seen | reading.passed
+    done: set[int] = set()
+    while left := code.begins.keys() - done:
+        done |= left
+        for address in left:
+            name = code.begins[address]
+            if not is_linkage(name) and ".cold" not in name and address in code.words:
+                reading = Reading(code, address)
+                functions[name] = reading.function
+                reached |= reading.seen | reading.passed
+    last = {code.of[address]: address for address in sorted(reached)}
     for address in code.words.keys() - reached:
-        name, words = code.of[address].partition(".cold")[0], code.words[address]
-        if name in functions and not words.startswith(PADDING):
-            functions[name].unknown.append("no way reaches " + words)
+        name, words = code.of[address], code.words[address]
+        # What stands behind all that is reached isn't code: a compiler may put tables and texts there.
+        if name.partition(".cold")[0] in functions and address < last.get(name, 0) and not words.startswith(PADDING):
+            functions[name.partition(".cold")[0]].unknown.append("no way reaches " + words)
     for function in functions.values():
         function.calls &= functions.keys()
     return functions

@@ -32,8 +32,8 @@ SLOW = {
     "1,024 games of lists that begin alike", "4,083 expansions of 4,095 parts", "4,096 boards of amazons 8x8",
     "4,096 boards of clobber 8x8", "4,096 boards of domineering 8x8", "4,096 boards refused for their share",
     "4,096 boards refused for their share, the first 64", "4,096 comparisons", "4,096 strips of 64",
-    "4,096 strips with 14 symbols", "4,096 sums", "4,096 thermographs", "a multiple of one", "a multiple of tiny",
-    "a multiple of tiny and star", "bypass through nimbers twice", "hackenbush of 64 green edges",
+    "4,096 strips with 14 symbols", "4,096 sums", "4,096 thermographs", "a great nimber and hot games", "a multiple of one",
+    "a multiple of tiny", "a multiple of tiny and star", "bypass through nimbers twice", "hackenbush of 64 green edges",
     "nimbers with ups as options", "sum of ones", "sum of switches", "switches as many as fit", "tinies as options",
     "two ups",
 }

@@ -2,8 +2,8 @@
 
 A value is a tuple. ("stack", 0, 0, n) is n bytes above where the stack pointer was when the function began; ("stack", a, b, n) is
 n bytes above where the instruction at a had aligned it to, which is at most b bytes below that. ("number", n) is a number,
-("address", a) one in the program, ("entry", a) was read from the table of jumps at a, and ("target", a) is where such an entry
-leads. What isn't known isn't kept.
+("address", a) one in the program, ("entry", a) was read from the table of jumps at a, and ("target", s) is where such an entry
+of one of the tables s leads. What isn't known isn't kept.
 """
 import functools
 import re
@@ -29,7 +29,7 @@ FLAGS_STAY = ("mov", "lea", "push", "pop", "nop", "set", "cmov")
 OPERAND = re.compile(r"[^,(]*\([^)]*\)|[^,]+")
 IMMEDIATE = re.compile(r"^\$(-?0x[0-9a-f]+)$")
 DISTANCE = re.compile(r"^(-?0x[0-9a-f]+)?\(%(r\w+)\)$")
-ENTRY = re.compile(r"^\(%(r\w+),%r\w+,4\)$")
+ENTRY = re.compile(r"^(?:0x0)?\(%(r\w+),%r\w+,4\)$")
 POINTED = re.compile(r"# ([0-9a-f]+) <")
 DECIDED = {"e": lambda d: d == 0, "ne": lambda d: d != 0, "l": lambda d: d < 0, "b": lambda d: d < 0, "ge": lambda d: d >= 0,
            "ae": lambda d: d >= 0, "g": lambda d: d > 0, "a": lambda d: d > 0, "le": lambda d: d <= 0, "be": lambda d: d <= 0}
@@ -62,9 +62,10 @@ class Known:
 
     def meet(self, other):
         """What is known here and there; None where that is all that was known here."""
-        values = {name: value for name, value in self.values.items() if other.values.get(name) == value}
+        values = {name: met(value, other.values.get(name)) for name, value in self.values.items()}
+        values = {name: value for name, value in values.items() if value is not None}
         differ = self.differ if self.differ == other.differ else None
-        return None if len(values) == len(self.values) and differ == self.differ else Known(values, differ)
+        return None if values == self.values and differ == self.differ else Known(values, differ)
 
     def of(self, operand):
         """The value of a whole register or of a number."""
@@ -96,6 +97,13 @@ class Known:
         return DECIDED[condition](self.differ) if self.differ is not None and condition in DECIDED else None
 
 
+def met(one, other):
+    """What is known of a value that is one or the other: where both lead on by tables, it leads on by one of these."""
+    if one[0] == "target" and other is not None and other[0] == "target":
+        return "target", one[1] | other[1]
+    return one if one == other else None
+
+
 def depth(value):
     """How many bytes below the start an address on the stack is at most."""
     return value[2] - value[3]
@@ -111,7 +119,7 @@ def sum_of(one, other):
     if one is None or other is None:
         return None
     if {one[0], other[0]} == {"entry", "address"} and one[1] == other[1]:
-        return "target", one[1]
+        return "target", frozenset([one[1]])
     one, other = (other, one) if one[0] == "number" else (one, other)
     return shifted(one, other[1]) if other[0] == "number" else None
 
