@@ -193,7 +193,8 @@ class Page(PageCase):
     def test_dragging(self) -> None:
         self.open('Domineering("....|....")')
         self.browser.idle()
-        wide = self.browser.one(self.cell("a1")).size["width"]
+        size = "return Math.round(document.querySelector(arguments[0]).offsetWidth)"
+        wide = int(self.browser.script(size, self.cell("a1")))
         self.browser.drag(self.cell("a1"), (wide, 0), (wide, 0))
         self.browser.until(lambda: "%23%23%23." in self.hash(), "three cells")
         self.browser.click("#undo")

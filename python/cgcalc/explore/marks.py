@@ -36,7 +36,7 @@ def closed_sum(position: Position) -> str:
     return sum_of(closed(text) for text in position)
 
 
-class Lists:
+class Marks:
     """What is asked about the moves of a position, for their marks."""
 
     def __init__(
@@ -114,7 +114,7 @@ class Lists:
         found = [self.hot.get(name) for name in self.shown.names]
         return max((one.temperature for one in found if one is not None), default=None)
 
-    def marks(self, move: SumMove) -> Told:
+    def of(self, move: SumMove) -> Told:
         """Whether a move wins, its stop, its temperature, whether it is sensible and hottest."""
         text, name = self.sums.get(move, ""), self.names.get(closed_sum(move.leaves), "")
         winner, stops = winner_of(self.winners.get(text)), stops_of(self.stops.get(text))

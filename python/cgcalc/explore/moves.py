@@ -6,7 +6,7 @@ from typing import Iterable, Optional, Sequence
 
 from cgcalc.errors import Refused
 from cgcalc.explore.asking import Asking
-from cgcalc.explore.marks import Lists, brace_check, closed_sum
+from cgcalc.explore.marks import Marks, brace_check, closed_sum
 from cgcalc.explore.positions import Shown, form_of, values_of_moves
 from cgcalc.explore.told import Told, told
 from cgcalc.moves.judged import DOMINATED, judged_moves
@@ -57,16 +57,16 @@ def moves_told(position: Position, asking: Asking) -> Told:
     complete = len(asked) == len(moves)
     parts = range(len(position))
     checks = [brace_check(shown, part, asked, values) if complete else "" for part in parts]
-    lists = Lists(shown, asked, values, [line for line in checks if line], asking)
+    marks = Marks(shown, asked, values, [line for line in checks if line], asking)
     found: dict[str, list[Told]] = {player: [] for player in PLAYERS}
     for at, move in enumerate(moves):
         one = move_told(move)
         if at < len(asked):
             one["value"] = told(values[leaves[at]], f"value {leaves[at]}", asking.limits)
-            one.update(lists.marks(move))
+            one.update(marks.of(move))
         found[move.player].append(one)
     choice = {player: chosen(found[player], player) for player in PLAYERS}
-    standing = [lists.checked(line) for line in checks]
+    standing = [marks.checked(line) for line in checks]
     return {"moves": found, "choice": choice, "checks": standing, "rule": RULE}
 
 

@@ -111,7 +111,8 @@ function drawAnswer() {
     row('Left stop', stops.left && fraction(stops.left)), row('Right stop', stops.right && fraction(stops.right)),
     row('Mean', thermo.mean && fraction(thermo.mean)), row('Temperature', thermo.temperature && fraction(thermo.temperature)),
   ].join(''));
-  const shown = html('p', { id: 'value', 'aria-label': `Value ${value.name}` }, written(value.shown));
+  const length = value.shown.length;
+  const shown = html('p', { id: 'value', class: length > 160 ? 'longest' : length > 40 ? 'long' : '', tabindex: length > 160 ? '0' : null, 'aria-label': `Value ${value.name}` }, written(value.shown));
   const wins = element('p', { id: 'outcome' }, element('b', { class: `chip ${outcome.winner}` }, outcome.winner || '!'), ` ${outcome.sentence}`);
   const copies = element('p', { class: 'row' }, element('button', { id: 'copy-value', onclick: () => copy(value.name, 'Value') }, 'Copy the value'), element('code', { id: 'value-name' }, value.name.length > 60 ? `${value.name.slice(0, 58)}..` : value.name));
   facts.replaceChildren(shown, copies, wins, list);

@@ -194,8 +194,8 @@ function valueLine(at) {
   const told = state.answer?.parts[at];
   if (!told) return element('p', { class: 'part-value' });
   if (told.value.refused) return refusalShown(told);
-  const heat = told.temperature === undefined ? '' : `, temperature ${fraction(told.temperature)}`;
-  return html('p', { class: 'part-value' }, now().parts.length > 1 ? `${written(told.value.shown)}${heat}` : '');
+  const heat = told.temperature === undefined ? '' : `<span>temperature ${fraction(told.temperature)}</span>`;
+  return html('p', { class: 'part-value' }, now().parts.length > 1 ? `<span class="line">${written(told.value.shown)}</span> ${heat}` : '');
 }
 
 // A refusal, and the text around its place.

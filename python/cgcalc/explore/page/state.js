@@ -23,17 +23,24 @@ export function changed(what) {
   else for (const call of heard[what]) call();
 }
 
-// What is drawn anew under a pressed pointer gets no click: answers wait until it is released.
+// A button that is drawn anew under a pressed pointer gets no click: answers wait until it is released, but not for long.
+const LONGEST_PRESS = 1500;
 let pressed = false;
 let late = false;
+let clock = null;
 
 function release() {
+  clearTimeout(clock);
   pressed = false;
   if (late) changed('answer');
   late = false;
 }
 
-document.addEventListener('pointerdown', () => { pressed = true; }, true);
+document.addEventListener('pointerdown', (event) => {
+  pressed = Boolean(event.target.closest('button, .sketch'));
+  clearTimeout(clock);
+  clock = setTimeout(release, LONGEST_PRESS);
+}, true);
 for (const end of ['pointerup', 'pointercancel']) document.addEventListener(end, () => setTimeout(release), true);
 
 export function now() {
