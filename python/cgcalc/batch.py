@@ -222,7 +222,7 @@ class Batch:
     def _is_near(self) -> bool:
         """Whether few lines are begun beyond the next one whose answer is wanted."""
         begun = self._order[self._fresh] - self._next
-        return begun < 4 * self._limits.at_once * self._room(0)
+        return begun < 2 * max(self._limits.at_once, 2) * self._room(0)
 
     def _room(self, step: int) -> int:
         """How many lines a run has at most."""

@@ -5,14 +5,16 @@ from concurrent.futures import Executor
 from dataclasses import dataclass
 from typing import Optional
 
-SMALL_SHARES = {1_024: 3, 8_192: 1, 65_536: 1, 524_288: 1, 4_194_304: 1}
+from cgcalc.limits import MOST_WORKERS
+
+SMALL_SHARES = {1_024: 3, 8_192: 1, 65_536: 1, 262_144: 1, 1_048_576: 1, 4_194_304: 1}
 """The shares that are tried first, with the quarters of the lines that make each worth its time."""
 SMALL_TABLE = 8_192
 """Lines that have room in a table of so many cells are asked with their whole share at once."""
 FEWEST_LINES = 16
 """A run isn't cut to fewer lines than these only to keep all processors busy."""
-WORKERS = 8
-"""A run has as many workers as these, where there are so many processors."""
+MOST_RUNS = 8
+"""About as many runs are made at once at most; with more processors each has several workers."""
 START_BYTES = 32
 """What a cell takes for a moment at the start, half of it for good."""
 
@@ -45,8 +47,13 @@ class Limits:
 
     @property
     def workers(self) -> int:
-        """The workers of a run: on several machines each has one."""
-        return min(self.processes, WORKERS) if self.executor is None else 1
+        """The fewest workers of a run; on several machines each has one.
+
+        One thread lays out a table, so several runs side by side are quicker than one with several
+        workers.
+        """
+        fewest = min(-(-self.processes // MOST_RUNS), MOST_WORKERS)
+        return fewest if self.executor is None else 1
 
     @property
     def at_once(self) -> int:

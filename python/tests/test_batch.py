@@ -306,7 +306,7 @@ class Memory(unittest.TestCase):
     """What the runs are told of memory, and what they take of it together."""
 
     def test_many_processors_take_little(self) -> None:
-        for processes, most in [(1, 128 << 20), (4, 256 << 20), (64, 2 << 30)]:
+        for processes, most in [(1, 128 << 20), (4, 512 << 20), (64, 2 << 30)]:
             limits = Limits(SHARE, POSITIONS, CELLS, processes, None, None, None, None)
             runs = limits.most_busy // limits.workers + 1
             self.assertLessEqual(runs * limits.table * START_BYTES, most)
