@@ -6,7 +6,8 @@ use Rattle.cg_form.specs.declared.form.Form.{Form}
 use Rattle.cg_form.specs.declared.form.Form.TheVariants.{Num, Node}
 use Rattle.cg_dyadic.specs.Number.{Number}
 use Rattle.cg_dyadic.proofs.Truth.{differ}
-use Rattle.cg_form.specs.Bypass.{AllCovered, Covered, Fine, Grown, bypassed, kept, under}
+use Rattle.cg_form.specs.Best.{Best, with_one}
+use Rattle.cg_form.specs.Bypass.{AllCovered, Covered, Fine, Grown, Replaces, Stands, Taken, bypassed, under}
 use Rattle.cg_form.specs.Canonical.{Canonical}
 use Rattle.cg_form.specs.Forms.{game_of, games_of}
 use Rattle.cg_form.specs.Game.{Among, Game, number}
@@ -16,11 +17,12 @@ use Rattle.cg_form.specs.Side.{AtMost, at_most, chosen, far, near}
 use Rattle.cg_form.specs.Simple.{NoNumber}
 use Rattle.cg_form.specs.Size.{list_size, size}
 use Rattle.cg_form.proofs.Among.{among-append, among-append_left, among-append_right, carry}
-use Rattle.cg_form.proofs.Bypass.{covered_more}
+use Rattle.cg_form.proofs.Best.{best_step}
+use Rattle.cg_form.proofs.Bypass.{covered_by}
 use Rattle.cg_form.proofs.FormLists.{games_of-all, games_of-take_suc, size_of_lists}
 use Rattle.cg_form.proofs.Order.{no_one-each}
 use Rattle.cg_form.proofs.Reduced.{canonical-far, canonical-near}
-use Rattle.cg_form.proofs.Sides.{not_both, far-node, near-node, near_number, not_near, side_trans, size-far}
+use Rattle.cg_form.proofs.Sides.{not_both, far-node, near-node, near_number, not_near, side_refl, side_trans, size-far}
 
 -- ---- the options of a node
 
@@ -48,48 +50,62 @@ grown_trans s g us vs ws p q = record {
   fine = λ x m. elim (q.fine x m) [ inl k ↦ p.fine x k | inr f ↦ inr f ];
 }
 
-grown_one : (s : Bool) (g x : Game) (gs rs : List Game) → rs ≡ gs ++ (x ∷ []) → Fine s g x → Grown s g gs rs
-grown_one s g x gs rs e f =
-    rw e (record {
-      keeps = λ y m. among-append_left y gs (x ∷ []) m;
-      fine = λ y m. elim (among-append y gs (x ∷ []) m) [
-        | inl k ↦ inl k
-        | inr k ↦ elim k [
-          | inl q ↦ (inr (rw q f))
-          | inr j ↦ absurd j
-        ]
-      ];
-    })
+-- ---- the best, one option more at a time
 
-last_among : (x : Game) (gs rs : List Game) → rs ≡ gs ++ (x ∷ []) → Among x rs
-last_among x gs rs e = rw e (among-append_right x gs (x ∷ []) (inl refl))
+pub taken_none : (s : Bool) (g : Game) (gs : List Game) → Stands s g gs → Taken s g gs [] gs
+taken_none s g gs h =
+    record { stands = h; above = λ x m. (x, m, side_refl s x); covered = record { each = λ c m. absurd m } }
+
+pub taken_for : (s : Bool) (g a : Game) (gs os us : List Game) → Taken s g gs os us → Covered s g us a
+    → Taken s g gs (a ∷ []) us
+taken_for s g a gs os us t c = record {
+  stands = t.stands;
+  above = t.above;
+  covered = record {
+    each = λ d m. elim m [
+      | inl e ↦ rw e c
+      | inr j ↦ absurd j
+    ];
+  };
+}
+
+pub taken_one : (s : Bool) (g x a : Game) (gs us : List Game) → Stands s g gs → Fine s g x → Covered s g (x ∷ []) a
+    → us ≡ with_one s gs x → Taken s g gs (a ∷ []) us
+taken_one s g x a gs us h f c e =
+    let b : Best s (gs ++ (x ∷ [])) us = rw e (best_step s gs gs x h.best) in
+    taken_for s g a gs [] us (record {
+      stands = record {
+        fine = λ y m. elim (among-append y gs (x ∷ []) (b.inside y m)) [
+          | inl k ↦ h.fine y k
+          | inr k ↦ elim k [
+            | inl q ↦ rw q f
+            | inr j ↦ absurd j
+          ]
+        ];
+        best = record { inside = λ y m. m; top = λ y m. (y, m, side_refl s y); apart = b.apart; rises = b.rises };
+      };
+      above = λ y m. b.top y (among-append_left y gs (x ∷ []) m);
+      covered = record { each = λ d m. absurd m };
+    }) (covered_by s g (x ∷ []) us a (λ y m. b.top y (among-append_right y gs (x ∷ []) m)) c)
+
+pub taken_replaces : (s : Bool) (g : Game) (old gs new : List Game) → Taken s g old gs new → Replaces s g gs new
+taken_replaces s g old gs new t =
+    record { candidates = new; covered = t.covered; fine = t.stands.fine; best = t.stands.best }
 
 -- a number as an option
-pub number_grown : (s : Bool) (g : Game) (f : Form) (x : Number) (gs rs : List Game) → f ≡ Num x
-    → ¬ AtMost s g (game_of f) → rs ≡ gs ++ (number x ∷ []) → Grown s g gs rs
-number_grown s g f x gs rs e n p =
-    grown_one s g (number x) gs rs p (record { canonical = tt; less = rw e at n; way = inl (x, refl) })
-
-pub number_covered : (s : Bool) (g : Game) (f : Form) (x : Number) (gs rs : List Game) → f ≡ Num x
-    → rs ≡ gs ++ (number x ∷ []) → Covered s g rs (game_of f)
-number_covered s g f x gs rs e p = rw e (kept (last_among (number x) gs rs p))
+pub fine_number : (s : Bool) (g : Game) (f : Form) (x : Number) → f ≡ Num x → ¬ AtMost s g (game_of f)
+    → Fine s g (game_of f)
+fine_number s g f x e n = record { canonical = rw e tt; less = n; way = inl (x, ap game_of e) }
 
 -- a number through which the option is reversible
-pub through_number_grown : (s : Bool) (g : Game) (f : Form) (x : Number) (gs rs : List Game) (t : Bool) → f ≡ Num x
-    → NoNumber g → t ≡ at_most s (game_of f) g → t ≡ true → rs ≡ gs ++ (number x ∷ []) → Grown s g gs rs
-through_number_grown s g f x gs rs t e n l k p =
-    grown_one s g (number x) gs rs p (record {
-      canonical = tt;
-      less = not_both s g x n (rw e at (sym l ∙ k));
-      way =
-          inl (x, refl);
-    })
+pub fine_through : (s : Bool) (g : Game) (f : Form) (x : Number) (t : Bool) → f ≡ Num x → NoNumber g
+    → t ≡ at_most s (game_of f) g → t ≡ true → Fine s g (game_of f)
+fine_through s g f x t e n l k = fine_number s g f x e (rw e (not_both s g x n (rw e at (sym l ∙ k))))
 
-pub through_number_covered : (s : Bool) (g a : Game) (f : Form) (x : Number) (gs rs : List Game) (t : Bool)
-    → f ≡ Num x → t ≡ at_most s (game_of f) g → t ≡ true → Among (game_of f) (far s a) → rs ≡ gs ++ (number x ∷ [])
-    → Covered s g rs a
-through_number_covered s g a f x gs rs t e l k m p =
-    bypassed (game_of f) m (sym l ∙ k) (rw e (λ c w. under (number x) (last_among (number x) gs rs p) (near_number s x c w)))
+pub covered_through : (s : Bool) (g a : Game) (f : Form) (x : Number) (t : Bool) → f ≡ Num x
+    → t ≡ at_most s (game_of f) g → t ≡ true → Among (game_of f) (far s a) → Covered s g (game_of f ∷ []) a
+covered_through s g a f x t e l k m =
+    bypassed (game_of f) m (sym l ∙ k) (rw e (λ c w. under (number x) (inl refl) (near_number s x c w)))
 
 -- a node through which the option is reversible
 pub through_node_covered : (s : Bool) (g a : Game) (f : Form) (ls rs os us : List Game) (t : Bool) → f ≡ Node ls rs
@@ -128,44 +144,44 @@ through_size s a f ls rs os m e h =
     part false = omega arith
 
 -- an option that is not reversible
-pub stays_grown : (s : Bool) (g : Game) (f k : Form) (ls rs os : List Game) (xs : List Form) (i : ℕ)
-    (gs us : List Game) → f ≡ Node ls rs → os ≡ chosen s rs ls → games_of xs ≡ os → length xs ≤ i
+pub fine_irreversible : (s : Bool) (g : Game) (f : Form) (ls rs os : List Game) (xs : List Form) (i : ℕ) → f ≡ Node ls rs
+    → os ≡ chosen s rs ls → games_of xs ≡ os → length xs ≤ i
     → no_one (λ b. at_most s b g) (games_of (take i xs)) ≡ true → Canonical (game_of f) → ¬ AtMost s g (game_of f)
-    → game_of k ≡ game_of f → us ≡ gs ++ (game_of k ∷ []) → Grown s g gs us
-stays_grown s g f k ls rs os xs i gs us e h j l never c n p q =
-    grown_one s g (game_of f) gs us (q ∙ ap (λ z. gs ++ (z ∷ [])) p) (record {
-      canonical = c;
-      less = n;
-      way = inr (λ b m t.
-          let w : Among b os = of_far s f ls rs os e h b m in
-          differ (at_most s b g) t (no_one-each (λ b. at_most s b g) (games_of (take i xs)) never b
-          (rw (sym j ∙ sym (games_of-all xs i l)) at w)));
-    })
-
-pub stays_covered : (s : Bool) (g : Game) (f k : Form) (gs us : List Game) → game_of k ≡ game_of f
-    → us ≡ gs ++ (game_of k ∷ []) → Covered s g us (game_of f)
-stays_covered s g f k gs us p q = kept (last_among (game_of f) gs us (q ∙ ap (λ z. gs ++ (z ∷ [])) p))
+    → Fine s g (game_of f)
+fine_irreversible s g f ls rs os xs i e h j l never c n = record {
+  canonical = c;
+  less = n;
+  way = inr (λ b m t.
+      let w : Among b os = of_far s f ls rs os e h b m in
+      differ (at_most s b g) t (no_one-each (λ b. at_most s b g) (games_of (take i xs)) never b
+      (rw (sym j ∙ sym (games_of-all xs i l)) at w)));
+}
 
 -- ---- over the list
 
-pub covered_next : (s : Bool) (g : Game) (fs : List Form) (i : ℕ) (f : Form) (bs cs : List Game) → i < length fs
-    → f ≡ get_or fs i f → AllCovered s g bs (games_of (take i fs))
-    → Grown s g bs cs → Covered s g cs (game_of f) → AllCovered s g cs (games_of (take (i + 1) fs))
-covered_next s g fs i f bs cs h e cov p q = record {
-  each = λ c m.
-      elim (among-append c (games_of (take i fs)) (game_of f ∷ [])
-      (carry c (games_of (take (i + 1) fs)) (games_of (take i fs) ++ (game_of f ∷ []))
-      (ap (λ n. games_of (take n fs)) next ∙ games_of-take_suc fs i f h e) m)) [
-        | inl k ↦ covered_more s g bs cs c p.keeps (cov.each c k)
-        | inr k ↦ elim k [
-          | inl w ↦ rw w q
-          | inr j ↦ absurd j
-        ]
-      ];
+pub taken_next : (s : Bool) (g : Game) (fs : List Form) (i : ℕ) (f : Form) (us vs ws : List Game) → i < length fs
+    → f ≡ get_or fs i f → Taken s g us (games_of (take i fs)) vs → Taken s g vs (game_of f ∷ []) ws
+    → Taken s g us (games_of (take (i + 1) fs)) ws
+taken_next s g fs i f us vs ws h e p q = record {
+  stands = q.stands;
+  above = λ x m. let (c, k, l) = p.above x m in let (d, w, j) = q.above c k in (d, w, side_trans s x c d l j);
+  covered = record {
+    each = λ c m.
+        elim (among-append c (games_of (take i fs)) (game_of f ∷ [])
+        (carry c (games_of (take (i + 1) fs)) (games_of (take i fs) ++ (game_of f ∷ []))
+        (ap (λ n. games_of (take n fs)) next ∙ games_of-take_suc fs i f h e) m)) [
+          | inl k ↦ covered_by s g vs ws c q.above (p.covered.each c k)
+          | inr k ↦ q.covered.each c k
+        ];
+  };
 }
   where
     next : i + 1 ≡ suc i
     next = omega arith
+
+pub taken_all : (s : Bool) (g : Game) (fs : List Form) (i : ℕ) (us os vs : List Game) → games_of fs ≡ os → length fs ≤ i
+    → Taken s g us (games_of (take i fs)) vs → Taken s g us os vs
+taken_all s g fs i us os vs e h t = rw (games_of-all fs i h ∙ e) at t
 
 -- ---- results
 

@@ -1,7 +1,7 @@
 -- The steps of the code that finds canonical forms.
 use Rattle.std.proofs.Common.{◌≡◌, ℕ, ◌+◌, ◌<◌, arith, suc, inl, inr, ap, ◌∙◌, List, [], ◌∷◌, ◌++◌, Bool, true, false}
 use Rattle.std.proofs.Common.{get_or, take, length}
-use Rattle.std.specs.Prelude.{Option, Some, None}
+use Rattle.std.specs.Prelude.{Option, Some, IsSome, is_some}
 use Rattle.cg_dyadic.specs.declared.cut.Cut.{Cut}
 use Rattle.cg_form.specs.declared.form.Form.{Form}
 use Rattle.cg_form.specs.declared.form.Form.TheVariants.{Num, Node}
@@ -9,7 +9,7 @@ use Rattle.cg_dyadic.specs.Cut.{in_gap}
 use Rattle.cg_dyadic.specs.Number.{InRange, Number}
 use Rattle.cg_dyadic.specs.Simplest.{NoOptionPasses, NonePasses}
 use Rattle.cg_dyadic.proofs.Strict.{gap_ends}
-use Rattle.cg_form.specs.Bypass.{Replaces}
+use Rattle.cg_form.specs.Bypass.{Taken}
 use Rattle.cg_form.specs.Canonical.{IsCanonicalForm}
 use Rattle.cg_form.specs.Cut.{AnyNumber, CutOf, Turned, other_cut}
 use Rattle.cg_form.specs.Forms.{game_of, games_of}
@@ -19,6 +19,7 @@ use Rattle.cg_form.specs.Order.{Equal}
 use Rattle.cg_form.specs.Range.{AnyOutside, EqualsOutside, HasOutside}
 use Rattle.cg_form.specs.Simple.{NoNumber}
 use Rattle.cg_form.proofs.Cut.{any-closed, cut-number}
+use Rattle.cg_form.proofs.BypassSteps.{taken_replaces}
 use Rattle.cg_form.proofs.CutSteps.{cut_of_none, gap_misses, gap_value}
 use Rattle.cg_form.proofs.Exists.{copies_equal, copies_more, copies_no_number, lefts_less, node_settled, rights_less}
 use Rattle.cg_form.proofs.FormLists.{games_of-append, games_of-take_suc}
@@ -65,47 +66,38 @@ known_num s f x c e at shut i =
     rw (ap game_of e) (known_number s (number x) x c at shut (equal_refl (number x))
     (in_range_not (number x) x i (equal_refl (number x))))
 
--- the cuts that were asked about are those of the lists
-gap_as : (a b o q : Option Cut) (test : (Number → Bool) → Type 0) → a ≡ o → b ≡ q → test (in_gap a b)
-    → test (in_gap o q)
-gap_as a b o q test e f n = rw f at (rw e at n)
-
-pub decide_number : (s : Bool) (ls rs : List Game) (a b o q : Option Cut) (x : Number) (c : Cut) → a ≡ o → b ≡ q
+pub decide_number : (s : Bool) (f : Form) (ls rs : List Game) (o q : Option Cut) (x : Number) (c : Cut) → f ≡ Node ls rs
     → CutOf AnyNumber true o ls → CutOf AnyNumber false q rs
-    → ¬ AnyOutside (of_list ls) → ¬ AnyOutside (of_list rs) → NoOptionPasses (in_gap a b) x → InRange x → c.at ≡ x
-    → c.closed ≡ true → KnownOf s (node ls rs) (number x) c
-decide_number s ls rs a b o q x c e f low high l r k i at shut =
-    let v = gap_value AnyNumber any-closed ls rs o q low high x tt (gap_as a b o q (λ t. NoOptionPasses t x) e f k) in
-    known_number s (node ls rs) x c at shut v (node_inside ls rs (in_range_not (node ls rs) x i v) l r)
+    → ¬ AnyOutside (of_list ls) → ¬ AnyOutside (of_list rs) → NoOptionPasses (in_gap o q) x → InRange x → c.at ≡ x
+    → c.closed ≡ true → KnownOf s (game_of f) (number x) c
+decide_number s f ls rs o q x c e low high l r k i at shut =
+    let v = gap_value AnyNumber any-closed ls rs o q low high x tt k in
+    rw e (known_number s (node ls rs) x c at shut v (node_inside ls rs (in_range_not (node ls rs) x i v) l r))
 
-pub decide_outside : (ls rs : List Game) (a b o q : Option Cut) (x : Number) → a ≡ o → b ≡ q
+pub decide_outside : (f : Form) (ls rs : List Game) (o q : Option Cut) (x : Number) → f ≡ Node ls rs
     → CutOf AnyNumber true o ls → CutOf AnyNumber false q rs
-    → NoOptionPasses (in_gap a b) x → ¬ InRange x → HasOutside (node ls rs)
-decide_outside ls rs a b o q x e f low high k i =
-    inl (record {
-      value = x;
-      outside = i;
-      equal =
-          gap_value AnyNumber any-closed ls rs o q low high x tt (gap_as a b o q (λ t. NoOptionPasses t x) e f k);
-    })
+    → NoOptionPasses (in_gap o q) x → ¬ InRange x → HasOutside (game_of f)
+decide_outside f ls rs o q x e low high k i = rw e (inl (record {
+  value = x;
+  outside = i;
+  equal = gap_value AnyNumber any-closed ls rs o q low high x tt k;
+}))
 
-pub decide_none : (ls rs cs ds : List Game) (a b o q : Option Cut) → a ≡ o → b ≡ q → CopiesOf ls cs → CopiesOf rs ds
-    → CutOf AnyNumber true o ls → CutOf AnyNumber false q rs
-    → NonePasses (in_gap a b) → NoNumber (node cs ds)
-decide_none ls rs cs ds a b o q e f l r low high n = copies_no_number ls rs cs ds l r (λ x k.
-    gap_misses AnyNumber ls rs o q low high (λ y p. gap_as a b o q NonePasses e f n y) x tt
-    (equal-fits x (node ls rs) k))
+pub decide_none : (ls rs cs ds : List Game) (o q : Option Cut) → CopiesOf ls cs → CopiesOf rs ds
+    → CutOf AnyNumber true o ls → CutOf AnyNumber false q rs → NonePasses (in_gap o q) → NoNumber (node cs ds)
+decide_none ls rs cs ds o q l r low high n = copies_no_number ls rs cs ds l r (λ x k.
+    gap_misses AnyNumber ls rs o q low high (λ y p. n y) x tt (equal-fits x (node ls rs) k))
 
-pub decide_reduced : (s : Bool) (ls rs cs ds : List Game) (k : Game) (a b o q : Option Cut) (low high c : Cut)
-    → a ≡ o → b ≡ q → CopiesOf ls cs → CopiesOf rs ds → CutOf AnyNumber true o ls → CutOf AnyNumber false q rs
-    → ¬ AnyOutside (of_list ls) → ¬ AnyOutside (of_list rs) → NonePasses (in_gap a b) → o ≡ Some low → q ≡ Some high
-    → IsCanonicalForm (node cs ds) k → Turned (other_cut s low high) c → KnownOf s (node ls rs) k c
-decide_reduced s ls rs cs ds k a b o q low high c e f l r cl cr il ir n is_low is_high form t =
-    let never = gap_as o q (Some low) (Some high) NonePasses is_low is_high (gap_as a b o q NonePasses e f n) in
+pub decide_reduced : (s : Bool) (f : Form) (ls rs cs ds : List Game) (k : Game) (o q : Option Cut) (low high c : Cut)
+    → f ≡ Node ls rs → CopiesOf ls cs → CopiesOf rs ds → CutOf AnyNumber true o ls → CutOf AnyNumber false q rs
+    → ¬ AnyOutside (of_list ls) → ¬ AnyOutside (of_list rs) → NonePasses (in_gap o q) → o ≡ Some low → q ≡ Some high
+    → IsCanonicalForm (node cs ds) k → Turned (other_cut s low high) c → KnownOf s (game_of f) k c
+decide_reduced s f ls rs cs ds k o q low high c e l r cl cr il ir n is_low is_high form t =
+    let never = rw is_high at (rw is_low at n) in
     let kl = rw is_low at cl in
     let kh = rw is_high at cr in
     let misses = gap_misses AnyNumber ls rs (Some low) (Some high) kl kh (λ x p. never x) in
-    record {
+    rw e (record {
       form = record {
         canonical = form.canonical;
         equal =
@@ -113,7 +105,7 @@ decide_reduced s ls rs cs ds k a b o q low high c e f l r cl cr il ir n is_low i
       };
       cut = cut_of_none AnyNumber any-closed s ls rs low high c kl kh (λ x p. never x) t;
       inside = node_inside ls rs (none_not (node ls rs) (λ x v. misses x tt (equal-fits x (node ls rs) v))) il ir;
-    }
+    })
 
 -- ---- a node by its lists
 
@@ -126,24 +118,23 @@ own_lefts_less ls rs us vs e = rw (← (same_lists ls rs us vs e).0) (lefts_less
 pub own_rights_less : (ls rs us vs : List Game) → Node ls rs ≡ Node us vs → EachLess false (node ls rs) vs
 own_rights_less ls rs us vs e = rw (← (same_lists ls rs us vs e).1) (rights_less ls rs)
 
-pub reduced_settled : (gl gr ls rs us vs bl br : List Game) → ls ≡ gl → rs ≡ gr → Node ls rs ≡ Node us vs
-    → NoNumber (node gl gr)
-    → Replaces true (node ls rs) us bl → Replaces false (node ls rs) vs br → IsCanonicalForm (node gl gr) (node bl br)
-reduced_settled gl gr ls rs us vs bl br e f h never pl pr =
+pub reduced_settled : (gl gr ls rs us vs bl br al ar kl kr : List Game) → ls ≡ gl → rs ≡ gr → Node ls rs ≡ Node us vs
+    → NoNumber (node gl gr) → Taken true (node ls rs) al us bl → Taken false (node ls rs) ar vs br → kl ≡ bl → kr ≡ br
+    → IsCanonicalForm (node gl gr) (node kl kr)
+reduced_settled gl gr ls rs us vs bl br al ar kl kr e f h never pl pr i j =
     let g : node ls rs ≡ node gl gr = ap (λ z. node z rs) e ∙ ap (λ z. node gl z) f in
-    rw g at (node_settled ls rs bl br (rw g never) (rw (← (same_lists ls rs us vs h).0) at pl)
-    (rw (← (same_lists ls rs us vs h).1) at pr))
+    let k = node_settled ls rs bl br (rw g never)
+    (rw (← (same_lists ls rs us vs h).0) at (taken_replaces true (node ls rs) al us bl pl))
+    (rw (← (same_lists ls rs us vs h).1) at (taken_replaces false (node ls rs) ar vs br pr)) in
+    rw i (rw j (rw g at k))
 
 -- ---- a gap in which no number lies has two ends
 
-some_none : (o : Option Cut) (c : Cut) → o ≡ Some c → o ≡ None → ⊥
-some_none o c e f = cc
+pub low_some : (o q : Option Cut) → NonePasses (in_gap o q) → IsSome o
+low_some o q n = ap is_some (gap_ends o q n).low_is
 
-pub low_missing : (a b o q : Option Cut) → a ≡ o → b ≡ q → NonePasses (in_gap a b) → o ≡ None → ⊥
-low_missing a b o q e f n k = let g = gap_ends o q (gap_as a b o q NonePasses e f n) in some_none o g.first g.low_is k
-
-pub high_missing : (a b o q : Option Cut) → a ≡ o → b ≡ q → NonePasses (in_gap a b) → q ≡ None → ⊥
-high_missing a b o q e f n k = let g = gap_ends o q (gap_as a b o q NonePasses e f n) in some_none q g.last g.high_is k
+pub high_some : (o q : Option Cut) → NonePasses (in_gap o q) → IsSome q
+high_some o q n = ap is_some (gap_ends o q n).high_is
 
 -- ---- over a list
 

@@ -28,6 +28,17 @@ pub record Grown (s : Player) (g : Game) (old new : List Game) : Type 0 where
 pub record AllCovered (s : Player) (g : Game) (ls gs : List Game) : Type 0 where
   pub each : (c : Game) → Among c gs → Covered s g ls c
 
+-- games that may stand as options of g, none no better than another, in rising order
+pub record Stands (s : Player) (g : Game) (gs : List Game) : Type 0 where
+  pub fine : (x : Game) → Among x gs → Fine s g x
+  pub best : Best s gs gs
+
+-- the list `new` stands, has a game as good as each of `old`, and covers gs
+pub record Taken (s : Player) (g : Game) (old gs new : List Game) : Type 0 where
+  pub stands : Stands s g new
+  pub above : (x : Game) → Among x old → (c : Game) × Among c new × AtMost s x c
+  pub covered : AllCovered s g new gs
+
 -- the best of what covers the options, and may stand as options of g
 pub record Replaces (s : Player) (g : Game) (old new : List Game) : Type 0 where
   pub candidates : List Game

@@ -1,6 +1,6 @@
 -- Lists of games that others are put behind, each only where it comes first, and lists that have the positions of each
 -- of their games.
-use Rattle.std.specs.Prelude.{◌||◌, Bool, false, if◌then◌else◌, List, [], ◌∷◌, ◌++◌}
+use Rattle.std.specs.Prelude.{List, [], ◌++◌}
 use Rattle.cg_form.specs.Firsts as firsts
 use Rattle.cg_form.specs.Game.{Among, Game, number, options}
 use Rattle.cg_form.specs.Positions.{all_positions, positions_in}

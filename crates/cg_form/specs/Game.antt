@@ -1,6 +1,6 @@
 -- Games as plain trees: a number, or two lists of options.
 -- Siegel, Combinatorial Game Theory (2013), II.1: short games and their options; II.3 for the options of a number.
-use Rattle.std.specs.Prelude.{◌≡◌, ◌⊎◌, List, [], ◌∷◌, map}
+use Rattle.std.specs.Prelude.{List, [], ◌∷◌, map}
 use Rattle.cg_form.specs.Firsts as firsts
 use Rattle.cg_dyadic.specs.Number.{Number, number_lefts, number_rights}
 

@@ -1,8 +1,8 @@
 -- The positions of a game: of a number itself alone, and of another game those of each Left option in order, those of each
 -- Right option in order, then the game itself, each only where it comes first.
-use Rattle.std.specs.Prelude.{not, filter, List, [], ◌∷◌, ◌++◌}
+use Rattle.std.specs.Prelude.{List, [], ◌∷◌, ◌++◌}
 use Rattle.cg_form.specs.Firsts as firsts
-use Rattle.cg_form.specs.Game.{Among, Game, Games, number, options, none, more}
+use Rattle.cg_form.specs.Game.{Game, Games, number, options, none, more}
 use Rattle.cg_form.specs.Structure.{is_same}
 
 -- the games without those that are the first

@@ -10,8 +10,7 @@ ghost use Rattle.cg_form.specs.Simple.{NoNumber};
 ghost use Rattle.cg_form.specs.Canonical.{IsCanonicalForm};
 ghost use Rattle.cg_form.specs.Range.{HasOutside, AnyOutside};
 ghost use Rattle.cg_form.specs.Cut.{CutOf, AnyNumber};
-ghost use Rattle.cg_form.specs.Bypass.{Replaces};
-ghost use Rattle.cg_form.specs.Known.{KnownOf, CopiesOf, EachCanonical, EachLess};
+ghost use Rattle.cg_form.specs.Known.{KnownOf, CopiesOf, EachCanonical};
 
 use crate::cuts::{joined, turned};
 use crate::fault::SlowFault;
@@ -23,7 +22,6 @@ use std::alloc::{AllocError, Global};
 mod best;
 mod reversing;
 
-use best::best_of;
 use reversing::bypass_all;
 
 /// A canonical form, and the cut of the numbers that are no better for the player.
@@ -40,23 +38,7 @@ struct KnownAll {
     cut: Option<Cut>,
 }
 
-/// The player's options in the canonical form.
-fn replaced(
-    alloc: Global,
-    left: bool,
-    whole: &Form,
-    options: &Options,
-) -> Result<Options, AllocError>
-    requires none { NoNumber (game_of whole.now) }
-    requires canonical { EachCanonical options.now }
-    requires less { EachLess left (game_of whole.now) options.now }
-    ensures { IfOk result (λ r. Replaces left (game_of whole.now) options.now r) }
-{
-    let candidates = Options::of(bypass_all(alloc, left, whole, options, Vec::new(alloc))?);
-    let best = best_of(alloc, left, &candidates)?;
-    Ok(Options::of(best))
-}
-
+/// The canonical form of the game with these options, which are canonical, where it equals no number.
 fn reduced(alloc: Global, lefts: Vec<Form>, rights: Vec<Form>) -> Result<Form, AllocError>
     requires none { NoNumber (node (games_of lefts.items) (games_of rights.items)) }
     requires lefts { EachCanonical (games_of lefts.items) }
@@ -68,65 +50,10 @@ fn reduced(alloc: Global, lefts: Vec<Form>, rights: Vec<Form>) -> Result<Form, A
     match &whole {
         Form::Num(_) => unreachable!(),
         Form::Node(own_lefts, own_rights) => {
-            let best_lefts = replaced(alloc, true, &whole, own_lefts)?;
-            let best_rights = replaced(alloc, false, &whole, own_rights)?;
-            Ok(Form::Node(best_lefts, best_rights))
+            let best_lefts = bypass_all(alloc, true, &whole, own_lefts, Vec::new(alloc))?;
+            let best_rights = bypass_all(alloc, false, &whole, own_rights, Vec::new(alloc))?;
+            Ok(Form::Node(Options::of(best_lefts), Options::of(best_rights)))
         }
-    }
-}
-
-fn same_cut(cut: &Option<Cut>) -> Option<Cut>
-    ensures { result ≡ cut.now }
-{
-    match cut {
-        None => None,
-        Some(c) => Some(*c),
-    }
-}
-
-/// The canonical form of the game with these options, whose canonical forms are given.
-fn decide(
-    alloc: Global,
-    left: bool,
-    lefts: &Options,
-    rights: &Options,
-    low: KnownAll,
-    high: KnownAll,
-) -> Result<Known, SlowFault>
-    requires left_copies { CopiesOf lefts.now (games_of low.forms.items) }
-    requires right_copies { CopiesOf rights.now (games_of high.forms.items) }
-    requires left_cut { CutOf AnyNumber true low.cut lefts.now }
-    requires right_cut { CutOf AnyNumber false high.cut rights.now }
-    requires left_inside { ¬ AnyOutside (of_list lefts.now) }
-    requires right_inside { ¬ AnyOutside (of_list rights.now) }
-    ensures known { IfOk result (λ r. KnownOf left (node lefts.now rights.now) (game_of r.form) r.cut) }
-    ensures range { result ≡ Err SlowFault.Range → HasOutside (node lefts.now rights.now) }
-{
-    let KnownAll {
-        forms: left_forms,
-        cut: low_cut,
-    } = low;
-    let KnownAll {
-        forms: right_forms,
-        cut: high_cut,
-    } = high;
-    match simplest_in(same_cut(&low_cut), same_cut(&high_cut)) {
-        Found::Number(x) => Ok(Known {
-            form: Form::Num(x),
-            cut: Cut::closed(x),
-        }),
-        Found::Outside(_) => Err(SlowFault::Range),
-        Found::Nothing => match &low_cut {
-            None => unreachable!(),
-            Some(below) => match &high_cut {
-                None => unreachable!(),
-                Some(above) => {
-                    let form = reduced(alloc, left_forms, right_forms)?;
-                    let cut = turned(left, below, above);
-                    Ok(Known { form, cut })
-                }
-            },
-        },
     }
 }
 
@@ -161,7 +88,20 @@ fn learn(alloc: Global, left: bool, form: &Form) -> Result<Known, SlowFault>
         Form::Node(lefts, rights) => {
             let low = learn_all(alloc, true, lefts)?;
             let high = learn_all(alloc, false, rights)?;
-            decide(alloc, left, lefts, rights, low, high)
+            match simplest_in(low.cut, high.cut) {
+                Found::Number(x) => Ok(Known {
+                    form: Form::Num(x),
+                    cut: Cut::closed(x),
+                }),
+                Found::Outside(_) => Err(SlowFault::Range),
+                Found::Nothing => {
+                    let below = low.cut.unwrap();
+                    let above = high.cut.unwrap();
+                    let form = reduced(alloc, low.forms, high.forms)?;
+                    let cut = turned(left, &below, &above);
+                    Ok(Known { form, cut })
+                }
+            }
         }
     }
 }

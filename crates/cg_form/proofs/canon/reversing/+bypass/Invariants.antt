@@ -1,5 +1,5 @@
 use Rattle.std.proofs.Common.{◌≡◌, ◌+◌, ◌*◌, take, true}
-use Rattle.cg_form.specs.Bypass.{AllCovered, Grown}
+use Rattle.cg_form.specs.Bypass.{Taken}
 use Rattle.cg_form.specs.Forms.{game_of, games_of}
 use Rattle.cg_form.specs.Order.{no_one}
 use Rattle.cg_form.specs.Side.{at_most}
@@ -16,7 +16,5 @@ abbrev pub invariant-bypass-loop-answer : goal.invariant-bypass-loop-answer
 invariant-bypass-loop-answer l = no_one (λ b. at_most l.left b (game_of l.whole)) (games_of (take l.answer-index l.answer-items)) ≡ true
 
 abbrev pub invariant-bypass_all-loop-option : goal.invariant-bypass_all-loop-option
-invariant-bypass_all-loop-option l = record {
-  grown : Grown l.left (game_of l.whole) (games_of l.fn.out.items) (games_of l.all.items);
-  covered : AllCovered l.left (game_of l.whole) (games_of l.all.items) (games_of (take l.option-index l.option-items));
-}
+invariant-bypass_all-loop-option l =
+    Taken l.left (game_of l.whole) (games_of l.fn.out.items) (games_of (take l.option-index l.option-items)) (games_of l.all.items)
