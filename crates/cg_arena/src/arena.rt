@@ -209,6 +209,17 @@ impl Arena {
         None
     }
 
+    /// The game at the place, which has one.
+    #[inline(always)]
+    pub fn game(&self, place: usize) -> Game
+        requires { place < length self.now }
+        ensures { result ≡ place }
+    {
+        // Read for the proof alone: there are at most 2^32 games.
+        let _count = self.entries.len();
+        Game::at(place as u32)
+    }
+
     /// Whether the game has so few positions that no answer about it has to be kept.
     #[inline]
     pub(crate) fn is_light(&self, game: Game) -> bool
