@@ -17,3 +17,4 @@ pub mod ListOrder
 pub mod Reaching
 pub mod Reducing
 pub mod LeaderSteps
+pub mod OneMove
