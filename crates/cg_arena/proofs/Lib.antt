@@ -18,3 +18,4 @@ pub mod Reaching
 pub mod Reducing
 pub mod LeaderSteps
 pub mod OneMove
+pub mod Depths

@@ -7,6 +7,9 @@
 //!
 //! Where one move leads from one of two games to the other, that move tells the answer. So it is with a sum that has a
 //! great nimber and one that differs in the nimber alone: all their options would be compared before the move is met.
+//!
+//! The measure by which a comparison ends is the sum of the depths of both games. So each function of it stands at most
+//! once more at the same time than that sum.
 ghost use Rattle.std.specs.Prelude.{◌≡◌, false, IfOk, IsTrue};
 ghost use Rattle.cg_form.specs.Order.{le, no_one};
 ghost use Rattle.cg_form.specs.Side.{at_most as at_most_for};
