@@ -90,20 +90,23 @@ pub bypass_list-bypass_once-requires : goal.bypass_list-bypass_once-requires
 bypass_list-bypass_once-requires t c =
     let gs = c.args.arena.now in
     let x = c.option-item.result in
-    let index = index_of_item gs c.args.list.now c.loop-option.option-index x c.requires.list c.loop-option-test.true (item_is c.args.list.now c.loop-option.option-index _ c.option-item.is c.loop-option-test.true) in
-    let smaller = item_depth gs c.args.list.now c.loop-option.option-index x c.loop-option-test.true (item_is c.args.list.now c.loop-option.option-index _ c.option-item.is c.loop-option-test.true) in
-    let less = c.requires.less.each (game_of gs x) (item_among gs c.args.list.now c.loop-option.option-index x c.loop-option-test.true (item_is c.args.list.now c.loop-option.option-index _ c.option-item.is c.loop-option-test.true)) in
+    let is = item_is c.args.list.now c.loop-option.option-index _ c.option-item.is c.loop-option-test.true in
+    let index = index_of_item gs c.args.list.now c.loop-option.option-index x c.requires.list c.loop-option-test.true is in
+    let smaller = item_depth gs c.args.list.now c.loop-option.option-index x c.loop-option-test.true is in
+    let less = c.requires.less.each (game_of gs x) (item_among gs c.args.list.now c.loop-option.option-index x c.loop-option-test.true is) in
     search rules
 
 pub bypass_list-loop-option-preserved : goal.bypass_list-loop-option-preserved
 bypass_list-loop-option-preserved t c =
     let gs = c.args.arena.now in
     let x = c.option-item.result in
+    let is = item_is c.args.list.now c.loop-option.option-index _ c.option-item.is c.loop-option-test.true in
     record {
       known = c.bypass_once.ensures.known;
       out = c.in_ok-bypass_once.ensures.done.out;
       so_far = bypassed_more gs c.args.left (unreduced_game gs c.args.unreduced.now) c.args.list.now c.args.out.now.items.items
           c.loop-option.out.items.items c.bypass_once.new.out.items.items c.loop-option.option-index x
-          c.loop-option.invariant.so_far c.loop-option-test.true (item_is c.args.list.now c.loop-option.option-index _ c.option-item.is c.loop-option-test.true) c.in_ok-bypass_once.ensures.done.grown
+          c.loop-option.invariant.so_far c.loop-option-test.true is
+          c.in_ok-bypass_once.ensures.done.grown
           (c.in_ok-bypass_once.ensures.done.covered (game_of gs x) refl);
     }

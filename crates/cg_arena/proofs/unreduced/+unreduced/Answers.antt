@@ -64,8 +64,9 @@ compared_with_unreduced-returns-in-Some-clause-order t c =
 
 pub first_at_most-at_most_unreduced-requires : goal.first_at_most-at_most_unreduced-requires
 first_at_most-at_most_unreduced-requires t c =
-    let index = index_of_item c.args.arena.now c.args.list.now c.loop-option.option-index _ c.requires.list c.loop-option-test.true (item_is c.args.list.now c.loop-option.option-index _ c.option-item.is c.loop-option-test.true) in
-    let smaller = item_depth c.args.arena.now c.args.list.now c.loop-option.option-index _ c.loop-option-test.true (item_is c.args.list.now c.loop-option.option-index _ c.option-item.is c.loop-option-test.true) in
+    let is = item_is c.args.list.now c.loop-option.option-index _ c.option-item.is c.loop-option-test.true in
+    let index = index_of_item c.args.arena.now c.args.list.now c.loop-option.option-index _ c.requires.list c.loop-option-test.true is in
+    let smaller = item_depth c.args.arena.now c.args.list.now c.loop-option.option-index _ c.loop-option-test.true is in
     search rules
 
 pub first_at_most-returns-then-branch-clause-some : goal.first_at_most-returns-then-branch-clause-some
