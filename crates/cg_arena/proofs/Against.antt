@@ -1,10 +1,10 @@
 -- The unreduced game compared with the games at indexes.
-use Rattle.std.proofs.Common.{◌≡◌, refl, ℕ, ◌+◌, ◌*◌, ◌<◌, ◌⊎◌, inl, inr, arith, ap, sym, ◌∙◌, List, [], ◌∷◌, Bool, IsTrue, Some, true, false, not, ◌&&◌, cond}
+use Rattle.std.proofs.Common.{◌≡◌, refl, ℕ, ◌<◌, ◌⊎◌, inl, inr, arith, ap, sym, ◌∙◌, List, [], ◌∷◌, Bool, IsTrue, Some, true, false, not, ◌&&◌, cond}
 use Rattle.cg_dyadic.proofs.Truth.{and_swap, differ, false-from}
+use Rattle.cg_form.specs.Depth.{deepest, depth_of}
 use Rattle.cg_form.specs.Game.{Among, Game, lefts, node, rights}
 use Rattle.cg_form.specs.Order.{no_one}
 use Rattle.cg_form.specs.Side.{at_most, chosen, far, near}
-use Rattle.cg_form.specs.Size.{list_size, size}
 use Rattle.cg_form.proofs.Among.{lefts-node, rights-node}
 use Rattle.cg_form.proofs.Order.{le-options, no_one-each}
 use Rattle.cg_form.proofs.Sides.{far-node, near-node, side_turned}
@@ -43,14 +43,14 @@ swapped false ls rs = refl
 -- the options of a game on one side, as they were read
 pub record OneSide (gs : List Game) (h : Game) (hs : List Game) (own : List ℕ) : Type 0 where
   pub indexes : AreIndexes gs own
-  pub size : 3 * list_size (games_of gs own) + 2 < 3 * size h
+  pub depth : deepest (games_of gs own) < depth_of h
   pub same : games_of gs own ≡ hs
 
 one_side : (gs : List Game) (h : Game) (ls rs : List ℕ) (left : Bool)
     → AreIndexes gs ls × AreIndexes gs rs × (h ≡ node (games_of gs ls) (games_of gs rs))
     → OneSide gs h (chosen left (games_of gs ls) (games_of gs rs)) (cond left ls rs)
-one_side gs h ls rs true r = let m = ap size r.2 in record { indexes = r.0; size = omega arith; same = refl }
-one_side gs h ls rs false r = let m = ap size r.2 in record { indexes = r.1; size = omega arith; same = refl }
+one_side gs h ls rs true r = let m = ap depth_of r.2 in record { indexes = r.0; depth = omega arith; same = refl }
+one_side gs h ls rs false r = let m = ap depth_of r.2 in record { indexes = r.1; depth = omega arith; same = refl }
 
 pub near_side : (gs : List Game) (h : Game) (ls rs own : List ℕ) (left : Bool)
     → AreIndexes gs ls × AreIndexes gs rs × (h ≡ node (games_of gs ls) (games_of gs rs)) → own ≡ cond left ls rs

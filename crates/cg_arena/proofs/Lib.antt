@@ -17,3 +17,5 @@ pub mod ListOrder
 pub mod Reaching
 pub mod Reducing
 pub mod LeaderSteps
+pub mod OneMove
+pub mod Depths

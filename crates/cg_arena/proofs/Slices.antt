@@ -7,7 +7,6 @@ use Rattle.std.proofs.lemmas.List.{drop-append-le, get_or_append_left, get_or_de
 use Rattle.std.proofs.lemmas.List.Elements.{All-push, Contains-append_right, Contains-get_or}
 use Rattle.cg_form.specs.Game.{Among, Game, node}
 use Rattle.cg_form.specs.Order.{no_one}
-use Rattle.cg_form.specs.Size.{list_size, size}
 use Rattle.cg_arena.specs.Arena.{AreIndexes, IsIndex, game_of, games_of}
 use Rattle.cg_arena.proofs.Profiling.{no_one-last}
 
@@ -49,12 +48,6 @@ slice_hit gs p (m ∷ ps) (suc i) k h e f =
     and_false : (b : Bool) → (b && false) ≡ false
     and_false true = refl
     and_false false = refl
-
-pub item_size : (gs : List Game) (ps : List ℕ) (i k : ℕ) → i < length ps → k ≡ get_or ps i 0
-    → size (game_of gs k) ≤ list_size (games_of gs ps)
-item_size gs [] i k h e = absurd (omega arith)
-item_size gs (m ∷ ps) zero k h e = let n = ap (λ z. size (game_of gs z)) e in omega arith
-item_size gs (m ∷ ps) (suc i) k h e = let n = item_size gs ps i k (omega arith) e in omega arith
 
 pub item_among : (gs : List Game) (ps : List ℕ) (i k : ℕ) → i < length ps → k ≡ get_or ps i 0 → Among (game_of gs k) (games_of gs ps)
 item_among gs [] i k h e = absurd (omega arith)

@@ -57,6 +57,9 @@ pub struct Arena {
 /// The greatest weight of a light game. Two light games are compared in a few steps.
 const LIGHT: u8 = 8;
 
+/// The greatest number of options of a short game.
+const LONG: usize = 16;
+
 impl Model for Arena {
     ghost use Rattle.std.specs.Prelude.{List, [], zip};
     ghost use Rattle.std.specs.Coded.{coded_list};
@@ -209,12 +212,32 @@ impl Arena {
         None
     }
 
+    /// The game at the place, which has one.
+    #[inline(always)]
+    pub fn game(&self, place: usize) -> Game
+        requires { place < length self.now }
+        ensures { result ≡ place }
+    {
+        // Read for the proof alone: there are at most 2^32 games.
+        let _count = self.entries.len();
+        Game::at(place as u32)
+    }
+
     /// Whether the game has so few positions that no answer about it has to be kept.
     #[inline]
     pub(crate) fn is_light(&self, game: Game) -> bool
         requires { IsIndex self.now game }
     {
         self.entries[game.place()].weight <= LIGHT
+    }
+
+    /// Whether the game has so many options that a search among them takes long.
+    #[inline]
+    pub(crate) fn is_long(&self, game: Game) -> bool
+        requires { IsIndex self.now game }
+    {
+        let entry = &self.entries[game.place()];
+        entry.end.saturating_sub(entry.lefts) > LONG
     }
 
     /// The game: a number, or its Left and its Right options.

@@ -2,7 +2,8 @@
 //!
 //! An option that is reversible through a number is replaced by that number itself: the number is at least as good as
 //! what the bypass would bring in, and adds nothing, since another option is at least as good as the number. So no
-//! number is counted down. Each option is bypassed once, however many ways lead to it.
+//! number is counted down. Each option is bypassed once, however many ways lead to it. The measure by which this ends is
+//! the depth of the option, so each function of it stands at most once more at the same time than that depth.
 ghost use Rattle.std.specs.Prelude.{◌≡◌, [], IfOk, cond};
 ghost use Rattle.cg_form.specs.Bypass.{AllCovered, Grown};
 ghost use Rattle.cg_form.specs.Game.{Among};

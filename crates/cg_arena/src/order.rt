@@ -4,7 +4,13 @@
 //! their options, as the definition says, and only their answers are kept, unless both games are light. A number is
 //! never counted down: it is at most a game that equals no number exactly where it is at least no Right option, and at
 //! least such a game exactly where it is at most no Left option.
-ghost use Rattle.std.specs.Prelude.{◌≡◌, IfOk};
+//!
+//! Where one move leads from one of two games to the other, that move tells the answer. So it is with a sum that has a
+//! great nimber and one that differs in the nimber alone: all their options would be compared before the move is met.
+//!
+//! The measure by which a comparison ends is the sum of the depths of both games. So each function of it stands at most
+//! once more at the same time than that sum.
+ghost use Rattle.std.specs.Prelude.{◌≡◌, false, IfOk, IsTrue};
 ghost use Rattle.cg_form.specs.Order.{le, no_one};
 ghost use Rattle.cg_form.specs.Side.{at_most as at_most_for};
 ghost use Rattle.cg_arena.specs.Arena.{AreIndexes, IsIndex, game_of, games_of};
@@ -70,8 +76,25 @@ fn compared(arena: &Arena, answers: &mut OrderMemo, a: Game, b: Game) -> Result<
     }
 }
 
-/// Whether a <= b, by an answer that is kept, or from their options. The answer is kept, unless both games are light:
-/// these are compared again.
+/// Whether one move leads from the one game to the other: Left's from a to b, or Right's from b to a.
+fn is_one_move(arena: &Arena, a: Game, b: Game) -> bool
+    requires a { IsIndex arena.now a }
+    requires b { IsIndex arena.now b }
+    ensures { IsTrue result → le (game_of arena.now a) (game_of arena.now b) ≡ false }
+{
+    if let Read::Options(lefts, _) = arena.read(a) {
+        if lefts.contains(&b) {
+            return true;
+        }
+    }
+    match arena.read(b) {
+        Read::Number(_) => false,
+        Read::Options(_, rights) => rights.contains(&a),
+    }
+}
+
+/// Whether a <= b, by an answer that is kept, by one move if a game is long, or from their options. An answer from their
+/// options is kept, unless both games are light: these are compared again.
 #[cycle(found)]
 #[inline(never)]
 fn found(arena: &Arena, answers: &mut OrderMemo, a: Game, b: Game) -> Result<bool, AllocError>
@@ -86,6 +109,9 @@ fn found(arena: &Arena, answers: &mut OrderMemo, a: Game, b: Game) -> Result<boo
     }
     if let Some(answer) = answers.recall(a, b) {
         return Ok(answer);
+    }
+    if (arena.is_long(a) || arena.is_long(b)) && is_one_move(arena, a, b) {
+        return Ok(false);
     }
     let answer = compared(arena, answers, a, b)?;
     answers.remember(a, b, answer)?;

@@ -150,19 +150,31 @@ impl OrderMemo {
         None
     }
 
-    /// Makes the table larger, where half as many answers as it has places were put into it since it grew, and it isn't
-    /// yet of the greatest size. Nothing changes where there is no memory.
-    fn grow(&mut self) -> Result<(), AllocError>
+    /// Makes the table larger, where it isn't yet of the greatest size. Nothing changes where there is no memory.
+    #[inline(never)]
+    fn enlarge(&mut self) -> Result<(), AllocError>
         ensures { (x : Known) → IsKept self.new x → IsKept self.old x }
     {
         let size = self.places.len();
-        if self.room > 0 || size >= MOST {
+        if size >= MOST {
             return Ok(());
         }
         let next = (2 * size).max(FIRST);
         self.places = moved(self.alloc, &self.places, next)?;
         self.room = next / 2;
         Ok(())
+    }
+
+    /// Makes the table larger, where half as many answers as it has places were put into it since it grew, and it isn't
+    /// yet of the greatest size. Nothing changes where there is no memory.
+    #[inline(always)]
+    fn grow(&mut self) -> Result<(), AllocError>
+        ensures { (x : Known) → IsKept self.new x → IsKept self.old x }
+    {
+        if self.room > 0 {
+            return Ok(());
+        }
+        self.enlarge()
     }
 
     /// Keeps whether the first game is at most the second. Some other answer may be forgotten for it. Nothing changes

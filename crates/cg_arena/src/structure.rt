@@ -33,8 +33,8 @@ fn compare_lists(arena: &Arena, a: &[Game], b: &[Game]) -> Ordering
     }
 }
 
-/// The structural order of two games. Games at one index are equal at once. It allocates nothing, and calls itself at
-/// most as deep as the games are.
+/// The structural order of two games. Games at one index are equal at once. It allocates nothing. The measure by which
+/// it ends is the depth of the first game, so it stands at most once more at the same time than that depth.
 #[cycle(compare)]
 pub(crate) fn compare(arena: &Arena, a: Game, b: Game) -> Ordering
     requires a { IsIndex arena.now a }

@@ -1,4 +1,7 @@
 //! A game of two lists of indexes, compared with the games at indexes.
+//!
+//! The measure by which a comparison ends is the depth of the game at the index. So each function of it stands at most
+//! once more at the same time than that depth.
 ghost use Rattle.std.specs.Prelude.{◌≡◌, cond, IfOk, IfSome, IfNone, IsTrue};
 ghost use Rattle.cg_form.specs.Game.{Among};
 ghost use Rattle.cg_form.specs.Order.{no_one};

@@ -1,13 +1,13 @@
 use Rattle.std.proofs.Common.{refl, rules}
 use Rattle.std.proofs.lemmas.Option.{MatchOption-at_none, MatchOption-at_some}
-use Rattle.cg_form.proofs.Sides.{size-far}
 use Rattle.cg_arena.specs.Arena.{game_of, games_of}
 use Rattle.cg_arena.specs.UnreducedGames.{unreduced_game}
 use Rattle.cg_arena.proofs.Against.{near_side}
 use Rattle.cg_arena.proofs.Bypassing.{bypassed_more, far_of_same, kept_there, replaced_and_passed, replaced_by_none}
 use Rattle.cg_arena.proofs.Bypassing.{replaced_by_one, through_fine, through_less, through_node, through_number}
+use Rattle.cg_arena.proofs.Depths.{depth-far, item_depth}
 use Rattle.cg_arena.proofs.Results.{always_ok, if_ok}
-use Rattle.cg_arena.proofs.Slices.{index_of_item, item_among, item_is, item_size}
+use Rattle.cg_arena.proofs.Slices.{index_of_item, item_among, item_is}
 use Rattle.cg_arena.proofs.bypass.+bypass.Goals as goal
 
 -- ---- one option
@@ -15,7 +15,7 @@ use Rattle.cg_arena.proofs.bypass.+bypass.Goals as goal
 pub bypass-bypass_through-requires : goal.bypass-bypass_through-requires
 bypass-bypass_through-requires t c =
     let h = MatchOption-at_some _ _ c.in-Some.answer c.in-Some.is c.in_ok-reverser.ensures.some in
-    let less = size-far c.args.left (game_of c.args.arena.now c.args.option) (game_of c.args.arena.now c.in-Some.answer) h.1 in
+    let less = depth-far c.args.left (game_of c.args.arena.now c.args.option) (game_of c.args.arena.now c.in-Some.answer) h.1 in
     let index = h.0 in
     let back = h.2 in
     search rules
@@ -42,7 +42,7 @@ bypass_through-bypass_list-requires t c =
     let answer = game_of gs c.args.answer in
     let side = near_side gs answer c.in-Options.lefts.now c.in-Options.rights.now c.chosen-near.result.now c.args.left c.in-Options.ensures.read c.chosen-near.ensures in
     let less = through_less c.args.left (unreduced_game gs c.args.unreduced.now) answer (games_of gs c.chosen-near.result.now) side.same c.requires.back in
-    let smaller = side.size in
+    let smaller = side.depth in
     let there = side.indexes in
     search rules
 
@@ -90,20 +90,23 @@ pub bypass_list-bypass_once-requires : goal.bypass_list-bypass_once-requires
 bypass_list-bypass_once-requires t c =
     let gs = c.args.arena.now in
     let x = c.option-item.result in
-    let index = index_of_item gs c.args.list.now c.loop-option.option-index x c.requires.list c.loop-option-test.true (item_is c.args.list.now c.loop-option.option-index _ c.option-item.is c.loop-option-test.true) in
-    let smaller = item_size gs c.args.list.now c.loop-option.option-index x c.loop-option-test.true (item_is c.args.list.now c.loop-option.option-index _ c.option-item.is c.loop-option-test.true) in
-    let less = c.requires.less.each (game_of gs x) (item_among gs c.args.list.now c.loop-option.option-index x c.loop-option-test.true (item_is c.args.list.now c.loop-option.option-index _ c.option-item.is c.loop-option-test.true)) in
+    let is = item_is c.args.list.now c.loop-option.option-index _ c.option-item.is c.loop-option-test.true in
+    let index = index_of_item gs c.args.list.now c.loop-option.option-index x c.requires.list c.loop-option-test.true is in
+    let smaller = item_depth gs c.args.list.now c.loop-option.option-index x c.loop-option-test.true is in
+    let less = c.requires.less.each (game_of gs x) (item_among gs c.args.list.now c.loop-option.option-index x c.loop-option-test.true is) in
     search rules
 
 pub bypass_list-loop-option-preserved : goal.bypass_list-loop-option-preserved
 bypass_list-loop-option-preserved t c =
     let gs = c.args.arena.now in
     let x = c.option-item.result in
+    let is = item_is c.args.list.now c.loop-option.option-index _ c.option-item.is c.loop-option-test.true in
     record {
       known = c.bypass_once.ensures.known;
       out = c.in_ok-bypass_once.ensures.done.out;
       so_far = bypassed_more gs c.args.left (unreduced_game gs c.args.unreduced.now) c.args.list.now c.args.out.now.items.items
           c.loop-option.out.items.items c.bypass_once.new.out.items.items c.loop-option.option-index x
-          c.loop-option.invariant.so_far c.loop-option-test.true (item_is c.args.list.now c.loop-option.option-index _ c.option-item.is c.loop-option-test.true) c.in_ok-bypass_once.ensures.done.grown
+          c.loop-option.invariant.so_far c.loop-option-test.true is
+          c.in_ok-bypass_once.ensures.done.grown
           (c.in_ok-bypass_once.ensures.done.covered (game_of gs x) refl);
     }

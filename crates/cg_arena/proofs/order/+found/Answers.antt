@@ -4,7 +4,8 @@ use Rattle.cg_form.specs.Side.{at_most}
 use Rattle.cg_form.proofs.Sides.{side_refl, side_turned}
 use Rattle.cg_arena.specs.Arena.{game_of, games_of}
 use Rattle.cg_arena.proofs.Comparing.{game_case, games_case, hindered, number_case, numbers_case, ok_same, remembered}
-use Rattle.cg_arena.proofs.Slices.{index_of_item, item_is, item_size, slice_hit, slice_miss}
+use Rattle.cg_arena.proofs.Depths.{item_depth}
+use Rattle.cg_arena.proofs.Slices.{index_of_item, item_is, slice_hit, slice_miss}
 use Rattle.cg_arena.proofs.order.+found.Goals as goal
 
 pub at_most-returns-then-eq-clause-order : goal.at_most-returns-then-eq-clause-order
@@ -62,7 +63,7 @@ none_as_good-at_most-requires t c =
     let k = c.option-item.result in
     let is = item_is c.args.list.now c.loop-option.option-index k c.option-item.is c.loop-option-test.true in
     let index = index_of_item c.args.arena.now c.args.list.now c.loop-option.option-index k c.requires.list c.loop-option-test.true is in
-    let smaller = item_size c.args.arena.now c.args.list.now c.loop-option.option-index k c.loop-option-test.true is in
+    let smaller = item_depth c.args.arena.now c.args.list.now c.loop-option.option-index k c.loop-option-test.true is in
     search rules
 
 pub none_as_good-returns-then-branch-clause-order : goal.none_as_good-returns-then-branch-clause-order

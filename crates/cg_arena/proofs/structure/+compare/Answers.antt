@@ -3,8 +3,9 @@ use Rattle.std.proofs.lemmas.Bool.Decides.{Decides-eqb}
 use Rattle.cg_form.specs.Structure.{game_cmp}
 use Rattle.cg_form.proofs.Structure.{game_cmp-refl}
 use Rattle.cg_arena.specs.Arena.{game_of}
+use Rattle.cg_arena.proofs.Depths.{item_depth}
 use Rattle.cg_arena.proofs.ListOrder.{passed_longer, passed_shorter}
-use Rattle.cg_arena.proofs.Slices.{index_of_item, item_is, item_size}
+use Rattle.cg_arena.proofs.Slices.{index_of_item, item_is}
 use Rattle.cg_arena.proofs.structure.+compare.Goals as goal
 
 pub compare-returns-then-eq : goal.compare-returns-then-eq
@@ -21,7 +22,7 @@ compare_lists-compare-order-requires t c =
     let l : c.loop-i.i < length c.args.b.now = omega (arith, c.if-i-b.false) in
     let first = item_is c.args.a.now c.loop-i.i _ c.index-a-i.is c.loop-i-test.true in
     let second = item_is c.args.b.now c.loop-i.i _ c.index-b-i.is l in
-    let k = item_size c.args.arena.now c.args.a.now c.loop-i.i c.index-a-i.result c.loop-i-test.true first in (
+    let k = item_depth c.args.arena.now c.args.a.now c.loop-i.i c.index-a-i.result c.loop-i-test.true first in (
       search rules,
       (
         index_of_item c.args.arena.now c.args.a.now c.loop-i.i c.index-a-i.result c.requires.a c.loop-i-test.true first,

@@ -4,7 +4,8 @@ use Rattle.cg_form.specs.Side.{at_most}
 use Rattle.cg_arena.specs.Arena.{game_of, games_of}
 use Rattle.cg_arena.specs.UnreducedGames.{unreduced_game}
 use Rattle.cg_arena.proofs.Against.{far_own, hindered, known_more, near_side, some_passes, turned_list, unhindered}
-use Rattle.cg_arena.proofs.Slices.{index_of_item, item_among, item_is, item_size, slice_miss}
+use Rattle.cg_arena.proofs.Depths.{item_depth}
+use Rattle.cg_arena.proofs.Slices.{index_of_item, item_among, item_is, slice_miss}
 use Rattle.cg_arena.proofs.unreduced.+unreduced.Goals as goal
 
 pub at_most_unreduced-returns-in_err-remember-clause-known : goal.at_most_unreduced-returns-in_err-remember-clause-known
@@ -23,7 +24,7 @@ pub compared_with_unreduced-first_at_most-requires : goal.compared_with_unreduce
 compared_with_unreduced-first_at_most-requires t c =
     let side = near_side c.args.arena.now (game_of c.args.arena.now c.args.index) c.in-Options.lefts.now c.in-Options.rights.now c.chosen-own.result.now c.args.left
     c.in-Options.ensures.read c.chosen-own.ensures in
-    let less = side.size in
+    let less = side.depth in
     let there = side.indexes in
     search rules
 
@@ -63,8 +64,9 @@ compared_with_unreduced-returns-in-Some-clause-order t c =
 
 pub first_at_most-at_most_unreduced-requires : goal.first_at_most-at_most_unreduced-requires
 first_at_most-at_most_unreduced-requires t c =
-    let index = index_of_item c.args.arena.now c.args.list.now c.loop-option.option-index _ c.requires.list c.loop-option-test.true (item_is c.args.list.now c.loop-option.option-index _ c.option-item.is c.loop-option-test.true) in
-    let smaller = item_size c.args.arena.now c.args.list.now c.loop-option.option-index _ c.loop-option-test.true (item_is c.args.list.now c.loop-option.option-index _ c.option-item.is c.loop-option-test.true) in
+    let is = item_is c.args.list.now c.loop-option.option-index _ c.option-item.is c.loop-option-test.true in
+    let index = index_of_item c.args.arena.now c.args.list.now c.loop-option.option-index _ c.requires.list c.loop-option-test.true is in
+    let smaller = item_depth c.args.arena.now c.args.list.now c.loop-option.option-index _ c.loop-option-test.true is in
     search rules
 
 pub first_at_most-returns-then-branch-clause-some : goal.first_at_most-returns-then-branch-clause-some
