@@ -8,7 +8,10 @@ from release.completions import completions
 from release.manuals import pages
 from release.steps import copy, run, write
 
-DOCUMENTS = ("README.md", "CHANGELOG.md", "CITATION.cff", "docs", "examples", os.path.join("python", "README.md"))
+DOCUMENTS = ("README.md", "CHANGELOG.md", "CITATION.cff", "CONTRIBUTING.md", "docs", "examples", "formal", "notes",
+             os.path.join("python", "README.md"))
+UNREAD = shutil.ignore_patterns("cg.1", "tests", "out", "_CoqProject")
+"""What no page leads to, in the folders of DOCUMENTS."""
 LICENCES = ("LICENSE-APACHE", "LICENSE-MIT")
 DOC, PYTHON = os.path.join("share", "doc", "cg"), os.path.join("lib", "cg")
 SCRIPT = """#!/usr/bin/env python3
@@ -58,7 +61,7 @@ def lay_documents(source, folder):
     for name in (*DOCUMENTS, *LICENCES):
         path, place = os.path.join(source.tree, name), os.path.join(folder, name)
         if os.path.isdir(path):
-            shutil.copytree(path, place, ignore=shutil.ignore_patterns("cg.1"))
+            shutil.copytree(path, place, ignore=UNREAD)
         else:
             copy(path, place)
     write(os.path.join(folder, "PROVED.txt"), source.proof())

@@ -20,6 +20,7 @@ ASKED = ["temp Domineering(\"{board}\")", "--rows", "1-2", "--columns", "1-2", "
 DRAFT = VERSION.endswith("+draft")
 KNOWN = "(?m)^unknown program: no record" if DRAFT else rf"(?m)^proved: cg {re.escape(VERSION)} by .*, commit \w{{40}}$"
 SECONDS = 30
+LINK = re.compile(r"\]\(([^\s()#:]+)(?:#[^\s()]*)?\)")
 wrong = []
 
 
@@ -97,6 +98,21 @@ class Place:
             matches(f"{self.name}: man -w {command}", self.done("man", "-w", command)[1], wanted)
             matches(f"{self.name}: man {command}", self.done("man", command)[1], rf"NAME\s+{command}\s+-\s+\w+")
 
+    def links(self):
+        """Each link of a page leads to a file or a folder that is installed, too."""
+        folder = os.path.join(self.share, "doc", "cg")
+        pages = sorted(glob.glob(f"{folder}/**/*.md", recursive=True))
+        count = 0
+        for path in pages:
+            with open(path, encoding="utf-8") as file:
+                found = LINK.findall(re.sub(r"(?ms)^```.*?^```", "", file.read()))
+            count += len(found)
+            for link in found:
+                if not os.path.exists(os.path.join(os.path.dirname(path), link)):
+                    wrong.append(f"{self.name}: {os.path.relpath(path, folder)} has a link to {link}, which isn't installed")
+        if len(pages) < 20 or count < 60:
+            wrong.append(f"{self.name}: {len(pages)} pages with {count} links are too few")
+
     def completes(self):
         """What bash, zsh and fish make of words that are begun and a tab, as it is typed."""
         words = {command: "--version" for command in COMMANDS}
@@ -154,6 +170,7 @@ def try_place(place, program):
     took = place.answers()
     place.told(program)
     place.reads()
+    place.links()
     place.completes()
     print(f"    {place.name}: {took:.1f} s from the file to the first answer")
 
