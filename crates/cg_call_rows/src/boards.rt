@@ -2,12 +2,11 @@
 //! rules in front of the row, and the call `rules` reads the rules alone; Col and Snort have the vertices in front of
 //! the edges.
 //!
-//! `read` shows the board, `copy` its copy, `make` the board made anew of its cells, `left` and `right` the boards that
-//! the player's moves lead to, and a number all boards that play can come to, if there are no more. `pieces` shows the
-//! board's pieces, and `pieces7` and `pieces8` all that play can come to from them, if there are no more. `spots_left`
-//! and `spots_right`, of Domineering, and `left_up`, `right_forth` and so on, the captures of a player that way in
-//! Clobber, give words. `rays`, with a word of free cells, numbers of rows and columns and a cell, gives what a queen
-//! of Amazons reaches.
+//! - `read`, `copy`, `make`: the board, its copy, the board made anew of its cells
+//! - `left`, `right`: the boards after the player's moves; a number: all boards that play can reach, up to that many
+//! - `pieces`: the board's pieces; `pieces7`, `pieces8`: all that play can reach from them, up to that many
+//! - `spots_left`, `spots_right` of Domineering, `left_up`, `right_forth` and so on of Clobber: cells as a word
+//! - `rays` with a word of free cells, numbers of rows and columns and a cell: what a queen of Amazons reaches
 ghost use Rattle.std.specs.Prelude.{◌≡◌, true};
 
 use crate::text::cut;
@@ -32,8 +31,7 @@ fn listed(alloc: Global, boards: &Boards) -> anyhow::Result<String> {
     Ok(all)
 }
 
-/// The pieces of the board, and where there is a limit, all that play can come to from them, if there are so many at
-/// most.
+/// The pieces of the board; with a limit, all that play can reach from them, if they are within it.
 fn in_pieces<R: Rules>(
     alloc: Global,
     rules: &R,
@@ -51,7 +49,6 @@ fn in_pieces<R: Rules>(
     }
 }
 
-/// The board made anew of its rows, columns, symbols and cells.
 fn made(alloc: Global, board: &Board) -> Result<String, AllocError> {
     let cells = board.cells(alloc)?;
     let rows = board.rows();
@@ -60,7 +57,6 @@ fn made(alloc: Global, board: &Board) -> Result<String, AllocError> {
     text(alloc, &board)
 }
 
-/// The call on this board of the game.
 fn on_board<R: Rules>(alloc: Global, rules: &R, board: &Board, call: &str) -> anyhow::Result<String>
     requires { (R.game rules.now).has board.now ≡ true }
 {
@@ -77,7 +73,6 @@ fn on_board<R: Rules>(alloc: Global, rules: &R, board: &Board, call: &str) -> an
     }
 }
 
-/// The call on a board of Domineering.
 fn on_domineering(alloc: Global, call: &str, text: &str) -> anyhow::Result<String> {
     let board = cg_domineering::read(alloc, text.as_bytes())?;
     match call {
@@ -102,7 +97,6 @@ fn way_of(call: &str) -> Option<(Player, Way)> {
     }
 }
 
-/// The call on a board of Clobber.
 fn on_clobber(alloc: Global, call: &str, text: &str) -> anyhow::Result<String> {
     let board = cg_clobber::read(alloc, text.as_bytes())?;
     match way_of(call) {
@@ -125,7 +119,6 @@ fn rays_of(text: &str) -> Option<u64> {
     Some(rays(free, rows, columns, cell))
 }
 
-/// The call on a row of the strip game of these rules.
 fn on_strip(alloc: Global, call: &str, text: &str) -> anyhow::Result<String> {
     let (rules, row) = cut(text, ' ');
     let strip = Strip::read(alloc, rules.as_bytes())?;
@@ -136,7 +129,6 @@ fn on_strip(alloc: Global, call: &str, text: &str) -> anyhow::Result<String> {
     on_board(alloc, &strip, &board, call)
 }
 
-/// The call on a drawing of Hackenbush, or on a position of Col or Snort.
 fn on_graph(alloc: Global, game: &str, call: &str, text: &str) -> anyhow::Result<String> {
     if game == "Hackenbush" {
         let drawing = Hackenbush::read(alloc, text.as_bytes())?;
@@ -154,7 +146,6 @@ fn on_graph(alloc: Global, game: &str, call: &str, text: &str) -> anyhow::Result
     on_board(alloc, &graph, &board, call)
 }
 
-/// What is answered to the row.
 pub(crate) fn answer(alloc: Global, game: &str, rest: &str) -> anyhow::Result<String> {
     let (call, text) = cut(rest, ' ');
     match game {

@@ -1,6 +1,6 @@
-//! Rows of games on handles: `desk` with a share, a limit on positions, and words, one for each call on the desk; the
-//! answers of all of them are printed, but of those with a point in front, then the limit, and how many cells are left
-//! in the store, which had as many as the share. Of a call that is refused it is said why, and what was spent so far.
+//! Rows of games on handles: `desk` with a share, a limit on positions, and a word for each call on the desk. The
+//! answers are printed, without those of words that begin with a point; then the limit, and how many cells are left in
+//! the store, which had as many as the share. A refused call prints its cause and what was spent so far.
 ghost use Rattle.std.specs.Prelude.{◌≤◌};
 
 use crate::desk::Desk;
@@ -52,7 +52,6 @@ fn worked<B: BoardForms, S: CellStore<GameFacts<B>>>(
     told(alloc, &mut desk, words)
 }
 
-/// What is answered to a row on handles.
 pub(crate) fn answer(alloc: Global, rest: &str) -> anyhow::Result<String> {
     let (share, rest) = cut(rest, ' ');
     let (positions, words) = cut(rest, ' ');

@@ -1,16 +1,22 @@
 //! A desk: a work, with the games that a row has made so far, which are named by their indices.
 //!
-//! `n:3/2^1` makes the item of the number 3/2, and `n:none` that of a number out of range; `g:0,1|2` makes the item
-//! of the canonical form of the game whose options are these handles; `c:2` charges the item of a form again; `+1`
-//! behind one of them is the cost of so much more, but at most 8. What is printed for these is the first game with the
-//! same handle, and what was spent so far.
+//! These make items, and print the first game with the same handle, and what was spent so far:
 //!
-//! `le:0:2` tells whether game 0 is at most game 2, `same:0:2` whether two are one game, `structure:0:2` their
-//! structural order; `above:3/2^1:2` whether the number is at most game 2, and `below:3/2^1:2` whether game 2 is at
-//! most the number; `id:2` the id of a handle, `kind:2` and `read:2` the number of a game; `sides:2` the options that
-//! are written in its form, and `lists:2` the handles on its left, how many, whether none, and whether the same list is
-//! on its right; `positions:2:3` its positions, if there are no more; `left:1:2` and `right:1:2` the walls of game 2 at
-//! the temperature 1; `name:2` its name.
+//! - `n:3/2^1`, `n:none`: the number 3/2, a number out of range
+//! - `g:0,1|2`: the canonical form of the game with these handles as options
+//! - `c:2`: the item of a form is charged again
+//! - `+1` after one of them: it costs 1 more, up to 8
+//!
+//! These ask:
+//!
+//! - `le:0:2`, `same:0:2`, `structure:0:2`: whether game 0 is at most game 2, or is the same; their structural order
+//! - `above:3/2^1:2`, `below:3/2^1:2`: whether the number is at most game 2, and game 2 at most the number
+//! - `id:2`, `kind:2`, `read:2`: the id of a handle; the number of a game
+//! - `sides:2`: the options of its form
+//! - `lists:2`: the handles on its left, how many, whether none, and whether its right has the same list
+//! - `positions:2:3`: its positions, up to 3
+//! - `left:1:2`, `right:1:2`: the walls of game 2 at the temperature 1
+//! - `name:2`: its name
 ghost use Rattle.std.specs.Prelude.{IfOk};
 ghost use Rattle.cg_canon.specs.Works.{work_state};
 ghost use Rattle.cg_cells.specs.Store.{Spends};
@@ -49,7 +55,6 @@ impl<'a, B: BoardForms, S: CellStore<GameFacts<B>>> Model for Desk<'a, B, S> {
     ghost invariant = { λ d. AreGames (work_state S.state d.work) d.games.items };
 }
 
-/// The text in front of `+`, and the cost behind it.
 fn extra_of(text: &str) -> (&str, u64) {
     let (front, extra) = cut(text, '+');
     (front, extra.parse::<u64>().unwrap_or(0))
@@ -70,7 +75,6 @@ fn lefts_of<B: BoardForms, S: CellStore<GameFacts<B>>>(
     }
 }
 
-/// The value of the wall with these corners at the temperature.
 fn value_at(alloc: Global, corners: &Corners, at: Wide) -> anyhow::Result<String> {
     if corners.is_empty() {
         anyhow::bail!("no wall");
@@ -83,7 +87,6 @@ fn value_at(alloc: Global, corners: &Corners, at: Wide) -> anyhow::Result<String
 
 #[tactic(auto, using(crate::proofs::Games::kept, crate::proofs::Games::spent, crate::proofs::Games::one_more))]
 impl<'a, B: BoardForms, S: CellStore<GameFacts<B>>> Desk<'a, B, S> {
-    /// A desk with no games.
     pub(crate) fn new(alloc: Global, work: Work<'a, B, S>) -> Desk<'a, B, S> {
         Desk {
             work,
@@ -91,12 +94,10 @@ impl<'a, B: BoardForms, S: CellStore<GameFacts<B>>> Desk<'a, B, S> {
         }
     }
 
-    /// What was spent so far.
     pub(crate) fn spent(&self) -> u64 {
         self.work.spent()
     }
 
-    /// The limit on positions.
     pub(crate) fn limit(&self) -> u64 {
         self.work.limit()
     }
@@ -114,7 +115,6 @@ impl<'a, B: BoardForms, S: CellStore<GameFacts<B>>> Desk<'a, B, S> {
         Ok(text)
     }
 
-    /// The handle of the game with this index.
     fn game(&self, word: &str) -> anyhow::Result<Handle>
         ensures { IfOk result (λ h. IsGame (work_state S.state self.now) h) }
     {
@@ -137,7 +137,6 @@ impl<'a, B: BoardForms, S: CellStore<GameFacts<B>>> Desk<'a, B, S> {
         Ok(all)
     }
 
-    /// Keeps the game that was made.
     fn keep(&mut self, handle: Handle) -> Result<(), AllocError>
         requires { IsGame (work_state S.state self.old) handle }
     {
@@ -151,7 +150,6 @@ impl<'a, B: BoardForms, S: CellStore<GameFacts<B>>> Desk<'a, B, S> {
         format!(in alloc; "{name}/{}", self.spent())
     }
 
-    /// Makes the item of a number.
     fn number(&mut self, alloc: Global, text: &str) -> anyhow::Result<String> {
         let (front, extra) = extra_of(text);
         let handle = number_item(alloc, &mut self.work, number(front).ok(), extra.min(8))?;
@@ -159,7 +157,6 @@ impl<'a, B: BoardForms, S: CellStore<GameFacts<B>>> Desk<'a, B, S> {
         Ok(self.place(alloc, handle)?)
     }
 
-    /// Makes the item of a canonical form.
     fn canonical(&mut self, alloc: Global, text: &str) -> anyhow::Result<String> {
         let (front, extra) = extra_of(text);
         let (left, right) = cut(front, '|');
@@ -170,7 +167,6 @@ impl<'a, B: BoardForms, S: CellStore<GameFacts<B>>> Desk<'a, B, S> {
         Ok(self.place(alloc, handle)?)
     }
 
-    /// Charges an item again.
     fn charge(&mut self, alloc: Global, text: &str) -> anyhow::Result<String> {
         let (front, extra) = extra_of(text);
         let game = self.game(front)?;
@@ -179,7 +175,6 @@ impl<'a, B: BoardForms, S: CellStore<GameFacts<B>>> Desk<'a, B, S> {
         Ok(self.place(alloc, handle)?)
     }
 
-    /// Compares two games.
     fn two(&mut self, alloc: Global, name: &str, text: &str) -> anyhow::Result<String> {
         let (front, back) = cut(text, ':');
         let first = self.game(front)?;
@@ -194,7 +189,6 @@ impl<'a, B: BoardForms, S: CellStore<GameFacts<B>>> Desk<'a, B, S> {
         }
     }
 
-    /// Compares a number with a game.
     fn with_number(&mut self, alloc: Global, name: &str, text: &str) -> anyhow::Result<String> {
         let (front, back) = cut(text, ':');
         let x = number(front)?;
@@ -205,7 +199,6 @@ impl<'a, B: BoardForms, S: CellStore<GameFacts<B>>> Desk<'a, B, S> {
         }
     }
 
-    /// The options that are written in a game's form.
     fn sides(&mut self, alloc: Global, text: &str) -> anyhow::Result<String> {
         let handle = self.game(text)?;
         match self.work.written(alloc, handle)? {
@@ -218,7 +211,6 @@ impl<'a, B: BoardForms, S: CellStore<GameFacts<B>>> Desk<'a, B, S> {
         }
     }
 
-    /// The handles on a game's left, how many these are, and whether its right has the same list.
     fn lists(&mut self, alloc: Global, text: &str) -> anyhow::Result<String> {
         let handle = self.game(text)?;
         let (all, same) = lefts_of(alloc, &mut self.work, handle)?;
@@ -253,7 +245,6 @@ impl<'a, B: BoardForms, S: CellStore<GameFacts<B>>> Desk<'a, B, S> {
         }
     }
 
-    /// The value of a wall of the thermograph at the temperature.
     fn wall(&mut self, alloc: Global, name: &str, text: &str) -> anyhow::Result<String> {
         let (at, game) = cut(text, ':');
         let at = wide(at)?;
@@ -265,13 +256,11 @@ impl<'a, B: BoardForms, S: CellStore<GameFacts<B>>> Desk<'a, B, S> {
         value_at(alloc, &walls.right, at)
     }
 
-    /// The name of a game.
     fn name(&mut self, alloc: Global, text: &str) -> anyhow::Result<String> {
         let handle = self.game(text)?;
         Ok(name_of(alloc, &mut self.work, handle)?)
     }
 
-    /// What the call answers that the word spells.
     pub(crate) fn call(&mut self, alloc: Global, word: &str) -> anyhow::Result<String> {
         let (name, text) = cut(word, ':');
         match name {

@@ -3,7 +3,6 @@ use crate::text::cut;
 use cg_octal::{read, values};
 use std::alloc::Global;
 
-/// What is answered to the row.
 pub(crate) fn answer(alloc: Global, call: &str, rest: &str) -> anyhow::Result<String> {
     let (code, heap) = cut(rest, ' ');
     let octal = read(alloc, code.as_bytes(), heap.parse::<u128>()?)?;

@@ -1,7 +1,7 @@
-//! Rows of the grammar. Of a line the question is written that it reads as, with each term in parentheses and each
-//! number as a fraction, or the column is told at which it is refused. A backslash and two digits of base sixteen stand
-//! for a byte. The line of `cuts` is cut before each of its bytes: each cut has to read, or to be refused where it
-//! ends. That of `statement` is a line of format 2, and that of `session` a session.
+//! Rows of the grammar. `line` prints the question that the line reads as, with each term in parentheses and each
+//! number as a fraction, or the column at which it is refused. A backslash and two hexadecimal digits stand for a
+//! byte. `cuts` cuts the line before each of its bytes: each cut has to read, or to be refused at its end.
+//! `statement` has a line of format 2, `session` a session.
 ghost use Rattle.std.specs.Prelude.{◌≤◌};
 ghost use Rattle.cg_grammar.specs.Lines.{Reads};
 ghost use Rattle.cg_query.specs.Trees.{question_of};
@@ -24,7 +24,6 @@ fn digit(byte: u8) -> u8
     }
 }
 
-/// The bytes that the row stands for.
 fn bytes_of(alloc: Global, row: &[u8]) -> Result<Vec<u8>, AllocError> {
     let mut bytes = Vec::new(alloc);
     let mut rest = row;
@@ -48,7 +47,7 @@ fn refusal(alloc: Global, fault: SyntaxFault) -> Result<String, AllocError> {
     }
 }
 
-/// What is written of the query, which the line reads as.
+/// The query in writing, if the line reads as it.
 fn asked_text(alloc: Global, line: &[u8], query: &Query) -> Result<String, AllocError>
     requires { Reads line.now (question_of query.now) }
 {
@@ -59,7 +58,6 @@ fn asked_text(alloc: Global, line: &[u8], query: &Query) -> Result<String, Alloc
     }
 }
 
-/// What is written of the line's question; or the column of its refusal.
 fn line_text(alloc: Global, line: &[u8]) -> Result<String, AllocError> {
     match read_line(alloc, line) {
         Ok(Line::Ask(query)) => asked_text(alloc, line, &query),
@@ -89,7 +87,6 @@ fn cuts_text(alloc: Global, line: &[u8]) -> Result<String, AllocError> {
     line_text(alloc, line)
 }
 
-/// What is answered to the row.
 pub(crate) fn answer(alloc: Global, call: &str, row: &[u8]) -> Result<String, AllocError> {
     let bytes = bytes_of(alloc, row)?;
     let line = bytes.as_slice();

@@ -29,7 +29,6 @@ use crate::text::cut;
 use cg_sample::sample;
 use std::alloc::Global;
 
-/// The sample of so many lines, with a sign for each end of a line.
 fn sampled(alloc: Global, rest: &str) -> anyhow::Result<String> {
     let lines = rest.parse::<u64>()?;
     if !(1..=4096).contains(&lines) {
@@ -38,7 +37,6 @@ fn sampled(alloc: Global, rest: &str) -> anyhow::Result<String> {
     Ok(sample(alloc, lines)?.replace(alloc, "\n", " ~ ")?)
 }
 
-/// What a row is answered.
 fn answer(alloc: Global, row: &str) -> anyhow::Result<String> {
     let (call, rest) = cut(row, ' ');
     match call {

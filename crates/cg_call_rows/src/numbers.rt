@@ -11,7 +11,6 @@ fn end(word: &str) -> anyhow::Result<Option<Dyadic>> {
     Ok(Some(number(word)?))
 }
 
-/// The simplest number between the two, where there is a gap.
 fn between(low: Option<Dyadic>, high: Option<Dyadic>) -> anyhow::Result<Dyadic> {
     match low {
         None => Ok(Dyadic::simplest_between(None, high)?),
@@ -27,7 +26,6 @@ fn between(low: Option<Dyadic>, high: Option<Dyadic>) -> anyhow::Result<Dyadic> 
     }
 }
 
-/// The number of these digits.
 fn digits(num: &str, den: &str) -> anyhow::Result<Option<Dyadic>> {
     let (negative, size) = match num.strip_prefix('-') {
         Some(size) => (true, size),
@@ -54,7 +52,6 @@ fn found(call: &str, first: &str, second: &str) -> anyhow::Result<Option<Dyadic>
     }
 }
 
-/// The answer to a row on numbers.
 pub(crate) fn answer(alloc: Global, call: &str, rest: &str) -> anyhow::Result<String> {
     if call == "make" {
         return made(alloc, number(rest)?);
@@ -73,7 +70,6 @@ pub(crate) fn answer(alloc: Global, call: &str, rest: &str) -> anyhow::Result<St
     }
 }
 
-/// The answer to a row on wall values.
 pub(crate) fn on_walls(alloc: Global, call: &str, rest: &str) -> anyhow::Result<String> {
     let (first, second) = cut(rest, ' ');
     let a = wide(first)?;

@@ -2,7 +2,6 @@
 use cg_dyadic::{Dyadic, Wide};
 use std::alloc::{AllocError, Global};
 
-/// The text in front of the first sign, and that behind it.
 pub(crate) fn cut(text: &str, sign: char) -> (&str, &str) {
     match text.split_once(sign) {
         Some(both) => both,
@@ -10,7 +9,6 @@ pub(crate) fn cut(text: &str, sign: char) -> (&str, &str) {
     }
 }
 
-/// The number that the word spells.
 pub(crate) fn number(word: &str) -> anyhow::Result<Dyadic> {
     match word.split_once("/2^") {
         None => Ok(Dyadic::make(word.parse::<i128>()?, 0)?),
@@ -18,7 +16,6 @@ pub(crate) fn number(word: &str) -> anyhow::Result<Dyadic> {
     }
 }
 
-/// The wall value that the word spells.
 pub(crate) fn wide(word: &str) -> anyhow::Result<Wide> {
     match word.strip_prefix('u') {
         None => Ok(Wide::of(number(word)?)),

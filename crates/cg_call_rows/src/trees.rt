@@ -7,7 +7,6 @@ use cg_form::{Form, Options, canonical_slow, compare_structure, le_slow};
 use std::alloc::Global;
 use std::mem;
 
-/// The tree that the words spell.
 fn read(alloc: Global, text: &str) -> anyhow::Result<Form> {
     let mut lists: Vec<Vec<Form>> = Vec::new(alloc);
     let mut here: Vec<Form> = Vec::new(alloc);
@@ -37,7 +36,6 @@ fn depths(alloc: Global) -> anyhow::Result<String> {
     Ok(format!(in alloc; "{}, {}", number.depth(), empty.depth())?)
 }
 
-/// The answer to a row on trees.
 pub(crate) fn answer(alloc: Global, call: &str, rest: &str) -> anyhow::Result<String> {
     if call == "depths" {
         return depths(alloc);

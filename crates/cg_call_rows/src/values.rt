@@ -19,7 +19,6 @@ use std::alloc::Global;
 
 type Store = PlainStore<GameFacts<CgBoards>>;
 
-/// The switch of a number of at least 0.
 fn switched<S: CellStore<GameFacts<CgBoards>>>(
     alloc: Global,
     work: &mut Work<CgBoards, S>,
@@ -66,7 +65,6 @@ fn told<S: CellStore<GameFacts<CgBoards>>>(
     Ok(format!(in alloc; "{text}, {spent} spent")?)
 }
 
-/// What is answered to the call.
 pub(crate) fn answer(alloc: Global, call: &str, rest: &str) -> anyhow::Result<String> {
     let mut store: Store = PlainStore::new(alloc, 4096)?;
     let mut work = Work::new(alloc, &mut store, 4096, 65_536);

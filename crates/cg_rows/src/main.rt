@@ -1,16 +1,15 @@
 //! Worked sessions: what each writes and how it ends.
 //!
-//! The input has a session behind each `$` that begins a line. The line of the `$` has the words of the command
-//! line, each behind a bar, and in front of them, where something fails in the session, how many bytes the source
-//! gives and the sink takes in a call at most, how many bytes the sink has room for, and which of their calls fail.
-//! The lines behind it are the session's own. One that begins with `@` has a number and a text, which stands there
-//! so many times, without a line feed but those that it spells: there a line feed is `\n`, a carriage return `\r`
-//! and the byte 0 `\0`. A session without lines has those of the one before. A line that begins with `$#` says what
-//! stands behind it, and one with `$?` asks what its words give.
+//! In the input a session follows each line that begins with `$`. That line has the words of the command line, each
+//! after a bar. If something fails in the session, it also has, before the words: how many bytes the source gives and
+//! the sink takes in a call at most, how many bytes the sink has room for, and which of their calls fail. The lines
+//! after it are the session's own; a session without lines has those of the one before. A line that begins with `@`
+//! has a number and a text that stands there that many times; in it `\n`, `\r` and `\0` are a line feed, a carriage
+//! return and the byte 0. A line that begins with `$#` is a comment, and one with `$?` asks what its words give.
 //!
-//! For each session its line is written, then the number of its status, how many bytes it wrote and how many the
-//! source still gives, and then what it wrote, or the end of that where it is long. The sessions with their wanted
-//! answers come from the textbook, from the literature and from hand.
+//! The output repeats the line of each session. Then come the number of its status, how many bytes it wrote, how many
+//! the source still gives, and what it wrote, or the end of that if it is long. The sessions and their answers come
+//! from the textbook and the literature, or were worked out by hand.
 #![tactic(auto)]
 
 use cg_io::{MemorySink, MemorySource, Source};
@@ -28,7 +27,6 @@ fn end_of(bytes: &[u8]) -> &[u8] {
     &bytes[bytes.len() - 20..]
 }
 
-/// The words of a command line, each with a bar in front of it.
 fn words_of(alloc: Global, line: &str) -> Result<Vec<String>, AllocError> {
     let mut words = Vec::new(alloc);
     for word in line.split('|').skip(1) {
@@ -50,7 +48,6 @@ fn text_of(alloc: Global, line: &str) -> Result<String, AllocError> {
     format!(in alloc; "{line}\n")
 }
 
-/// The bytes of the lines.
 fn bytes_of(alloc: Global, lines: &str) -> Result<Vec<u8>, AllocError> {
     let mut bytes = Vec::new(alloc);
     for line in lines.split('\n') {
@@ -60,7 +57,6 @@ fn bytes_of(alloc: Global, lines: &str) -> Result<Vec<u8>, AllocError> {
     Ok(bytes)
 }
 
-/// What the words of the line give.
 fn settings(alloc: Global, line: &str) -> Result<String, AllocError> {
     let words = words_of(alloc, line)?;
     match Settings::read(alloc, &words) {
