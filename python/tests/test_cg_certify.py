@@ -118,7 +118,7 @@ class Command(unittest.TestCase):
 
     def test_the_example_of_the_page(self) -> None:
         page = (ROOT / "docs" / "CERTIFY.md").read_text(encoding="utf-8")
-        _, _, example = page.partition("```\n$ tools/cg-certify --check ")
+        _, _, example = page.partition("```\n$ cg-certify --check ")
         words, _, told = example.partition("```")[0].partition("\n")
         self.assertEqual(summary(certificate_of(shlex.split(words), Session())), told)
 
