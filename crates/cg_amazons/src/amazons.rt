@@ -16,7 +16,6 @@ use std::alloc::{AllocError, Global};
 #[derive(Clone, Copy, Debug, PartialEq, Eq)]
 pub struct Amazons;
 
-/// The symbol of the player's queens.
 fn queen(player: Player) -> u8
     ensures { result ≡ queen player }
 {
@@ -26,7 +25,6 @@ fn queen(player: Player) -> u8
     }
 }
 
-/// The board in words, for the player.
 fn words_of(board: &Board, player: Player) -> QueenWords
     requires { amazons.has board.now ≡ true }
     ensures columns { result.shape.columns ≡ board.now.columns }
@@ -47,7 +45,6 @@ fn words_of(board: &Board, player: Player) -> QueenWords
     }
 }
 
-/// The boards after the moves of the player's queens.
 fn boards_of(alloc: Global, board: &Board, player: Player) -> Result<Vec<Board>, AllocError>
     requires { amazons.has board.now ≡ true }
     ensures { IfOk result (λ boards. Takes board.now [] boards.items

@@ -50,7 +50,7 @@ fn shot(board: &Board, target: u8) -> Board
     board.with_planes(board.rows(), board.columns(), after)
 }
 
-/// Puts the board after an arrow onto this cell behind the boards, if it is a target.
+/// Appends the board after an arrow onto this cell, if it is a target.
 fn shoot_at(
     board: &Board,
     targets: u64,
@@ -70,7 +70,7 @@ fn shoot_at(
     Ok(())
 }
 
-/// Puts the boards after arrows onto the targets behind the boards.
+/// Appends to `boards` the board after an arrow at each target.
 fn shoot(board: &Board, targets: u64, boards: &mut Vec<Board>) -> Result<(), AllocError>
     requires { amazons.has board.now ≡ true }
     ensures { IfOk result (λ _. Takes board.now boards.old.items boards.new.items
@@ -82,7 +82,6 @@ fn shoot(board: &Board, targets: u64, boards: &mut Vec<Board>) -> Result<(), All
     Ok(())
 }
 
-/// The board after the queen on this cell has moved onto that one.
 fn moved(
     alloc: Global,
     board: &Board,
@@ -102,7 +101,7 @@ fn moved(
     Ok(after)
 }
 
-/// Puts the boards that the queen on this cell leads to, when it moves onto that one and shoots, behind the boards.
+/// Appends the boards after the queen's move to that cell and each of its shots.
 fn move_and_shoot(
     alloc: Global,
     board: &Board,
@@ -125,8 +124,7 @@ fn move_and_shoot(
     Ok(())
 }
 
-/// Puts the boards that the queen on this cell leads to, when it moves onto that one, behind the boards, if it reaches
-/// that.
+/// Appends the boards after the queen's move to that cell and each of its shots, if it reaches that cell.
 fn move_onto(
     alloc: Global,
     board: &Board,
@@ -150,7 +148,7 @@ fn move_onto(
     Ok(())
 }
 
-/// Puts the boards that the queen on this cell leads to behind the boards.
+/// Appends the boards after all moves of the queen on this cell.
 fn move_queen(
     alloc: Global,
     board: &Board,
@@ -170,7 +168,7 @@ fn move_queen(
     Ok(())
 }
 
-/// Puts the boards that the queen on this cell leads to behind the boards, if there is one.
+/// Appends the boards after all moves of the queen on this cell, if there is one.
 fn move_from(
     alloc: Global,
     board: &Board,

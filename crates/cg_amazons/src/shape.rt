@@ -35,14 +35,12 @@ impl Shape {
         }
     }
 
-    /// The cell one row up.
     fn up(self, at: u64) -> u64
         ensures { (cell : Option ℕ) → IsCell at cell → IsCell result (option_and_then (up self.columns) cell) }
     {
         moved_back(at, self.columns)
     }
 
-    /// The cell one row down.
     fn down(self, at: u64) -> u64
         requires { IsShape self }
         ensures { (cell : Option ℕ) → IsCell at cell

@@ -39,7 +39,7 @@ fn bytes_of(alloc: Global, row: &[u8]) -> Result<Vec<u8>, AllocError> {
     Ok(bytes)
 }
 
-/// The column of the refusal, which wasn't for want of memory.
+/// The column of the refusal, which wasn't out of memory.
 fn refusal(alloc: Global, fault: SyntaxFault) -> Result<String, AllocError> {
     match fault {
         SyntaxFault::Syntax(column) => format!(in alloc; "column {column}"),

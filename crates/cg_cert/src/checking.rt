@@ -115,7 +115,7 @@ fn check_proof<B: BoardForms, S: CellStore<GameFacts<B>>>(
     Ok(after(bytes, here, b')'))
 }
 
-/// Whether the bytes are a proof that g is at least h. The only error is want of memory.
+/// Whether the bytes are a proof that g is at least h. The only error is out of memory.
 pub fn check<B: BoardForms, S: CellStore<GameFacts<B>>>(
     alloc: Global,
     work: &mut Work<B, S>,

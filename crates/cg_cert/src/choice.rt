@@ -31,7 +31,7 @@ pub(crate) struct Move {
 }
 
 /// The player's first option of the game that is for the player at least as good as the other game. The only error is
-/// want of memory.
+/// out of memory.
 fn first_choice<B: BoardForms, S: CellStore<GameFacts<B>>>(
     alloc: Global,
     work: &mut Work<B, S>,

@@ -22,7 +22,7 @@ pub(crate) enum Position {
     At(Game),
 }
 
-/// Whether a <= b. The only error is want of memory.
+/// Whether a <= b. The only error is out of memory.
 fn position_le<B: BoardForms, S: CellStore<GameFacts<B>>>(
     work: &mut Work<B, S>,
     a: &Position,
@@ -128,7 +128,7 @@ fn positions_at(alloc: Global, games: &[Game]) -> Result<Vec<Position>, AllocErr
     Ok(all)
 }
 
-/// The options of the position, for Left or for Right, in their order. The only error is want of memory.
+/// The options of the position, for Left or for Right, in their order. The only error is out of memory.
 pub(crate) fn options<B: BoardForms, S: CellStore<GameFacts<B>>>(
     alloc: Global,
     work: &Work<B, S>,

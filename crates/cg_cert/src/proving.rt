@@ -25,7 +25,7 @@ use std::alloc::Global;
 /// The most bytes that may follow the first word of an answer.
 const LIMIT: usize = 65_536;
 
-/// Puts a letter, a place and the proof of the pair that they lead to behind the text.
+/// Appends a letter, a place and the proof of the pair that they lead to.
 #[cycle(put)]
 fn put_move<B: BoardForms, S: CellStore<GameFacts<B>>>(
     alloc: Global,
@@ -47,8 +47,7 @@ fn put_move<B: BoardForms, S: CellStore<GameFacts<B>>>(
     put_proof(alloc, work, limit, leads, text)
 }
 
-/// Puts the first answer that serves to the move that led to the pair behind the text, with the proof of what it leads
-/// to.
+/// Appends the first answer that serves to the move that led to the pair, with the proof of what it leads to.
 #[cycle(put)]
 fn put_reply<B: BoardForms, S: CellStore<GameFacts<B>>>(
     alloc: Global,
@@ -72,7 +71,7 @@ fn put_reply<B: BoardForms, S: CellStore<GameFacts<B>>>(
     }
 }
 
-/// Puts the proof of the pair, by the first answers that serve, behind the text.
+/// Appends the proof of the pair, by the first answers that serve.
 #[cycle(put)]
 fn put_proof<B: BoardForms, S: CellStore<GameFacts<B>>>(
     alloc: Global,
@@ -100,7 +99,7 @@ fn put_proof<B: BoardForms, S: CellStore<GameFacts<B>>>(
     put(text, limit, ")")
 }
 
-/// Puts what follows `no `: a point where both are numbers, and else Right's first winning move with its proof.
+/// Appends what follows `no `: a point for two numbers, otherwise Right's first winning move with its proof.
 fn put_refusal<B: BoardForms, S: CellStore<GameFacts<B>>>(
     alloc: Global,
     work: &mut Work<B, S>,

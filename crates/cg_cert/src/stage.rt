@@ -21,7 +21,7 @@ pub(crate) struct Stage {
     pub second: Position,
 }
 
-/// The pair of the games of two handles. The only error is want of memory.
+/// The pair of the games of two handles. The only error is out of memory.
 pub(crate) fn stage_of<B: BoardForms, S: CellStore<GameFacts<B>>>(
     alloc: Global,
     work: &mut Work<B, S>,
@@ -101,7 +101,7 @@ fn with_stages(
     Ok(all)
 }
 
-/// The pairs to which Right's moves lead, in order. The only error is want of memory.
+/// The pairs to which Right's moves lead, in order. The only error is out of memory.
 pub(crate) fn moves<B: BoardForms, S: CellStore<GameFacts<B>>>(
     alloc: Global,
     work: &Work<B, S>,

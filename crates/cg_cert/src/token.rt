@@ -43,7 +43,6 @@ pub(crate) fn letter_at(bytes: &[u8], at: usize) -> Option<Letter>
     }
 }
 
-/// Whether the byte is a decimal digit.
 fn is_digit(byte: u8) -> bool
     ensures { result ≡ is_digit byte }
 {

@@ -50,7 +50,6 @@ fn stones_of(board: &Board, player: Player, first_column: u64) -> Stones
     }
 }
 
-/// The player's stones that capture on the cell above.
 fn captures_up(board: &Board, player: Player, stones: Stones) -> u64
     requires { AreStones player board.now stones }
     ensures { Marks result (captures_that_way player board.now Up) }
@@ -62,7 +61,6 @@ fn captures_up(board: &Board, player: Player, stones: Stones) -> u64
     stones.own & moved
 }
 
-/// The player's stones that capture on the cell below.
 fn captures_down(board: &Board, player: Player, stones: Stones) -> u64
     requires { AreStones player board.now stones }
     ensures { Marks result (captures_that_way player board.now Down) }

@@ -81,7 +81,6 @@ fn with_stone(planes: Planes, cell: u8, player: Player) -> Planes
     }
 }
 
-/// The board after the player's stone on the one cell has moved onto the other.
 #[inline(always)]
 fn moved(board: &Board, player: Player, from: u8, onto: u8) -> Board
     requires has { clobber.has board.now ≡ true }
@@ -95,7 +94,7 @@ fn moved(board: &Board, player: Player, from: u8, onto: u8) -> Board
     board.with_planes(board.rows(), board.columns(), both)
 }
 
-/// Puts the board after the move of the player's stone on this cell that way, which captures, behind the boards.
+/// Appends the board after the stone on this cell captures that way.
 #[inline(never)]
 fn put_capture(
     board: &Board,
@@ -115,7 +114,7 @@ fn put_capture(
     Ok(())
 }
 
-/// Puts the board after the move of the player's stone on this cell that way behind the boards, if it captures.
+/// Appends the board after the stone on this cell captures that way, if it does.
 #[inline(always)]
 fn put_move(
     board: &Board,
@@ -167,8 +166,7 @@ pub(crate) fn put_onward(
     }
 }
 
-/// Puts the board after the move of the player's stone that stands so many cells behind this one that way behind the
-/// boards, if it captures.
+/// Appends the board after the stone so many cells after this one captures that way, if it does.
 #[inline(always)]
 fn put_move_from(
     board: &Board,

@@ -18,7 +18,7 @@ use std::alloc::{AllocError, Global};
 /// player moves a stone onto a neighbouring one of the other player, which is removed.
 pub struct Clobber;
 
-/// Puts the boards after the player's moves from each cell onto later ones behind the boards, from the first cell on.
+/// Appends the boards after the player's moves from each cell onto later ones, from the first cell on.
 fn put_all_onward(
     board: &Board,
     player: Player,
@@ -39,7 +39,7 @@ fn put_all_onward(
     Ok(())
 }
 
-/// Puts the boards after the player's moves onto each cell from later ones behind the boards, from the last cell on.
+/// Appends the boards after the player's moves onto each cell from later ones, from the last cell on.
 fn put_all_toward(
     board: &Board,
     player: Player,
@@ -60,7 +60,7 @@ fn put_all_toward(
     Ok(())
 }
 
-/// Puts the boards after the player's moves between each cell and later ones behind the boards, from the first cell on.
+/// Appends the boards after the player's moves between each cell and later ones, from the first cell on.
 fn put_all_paired(
     board: &Board,
     player: Player,

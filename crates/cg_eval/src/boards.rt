@@ -37,7 +37,6 @@ pub enum GameBoard {
     Colouring(Colouring, Board),
 }
 
-/// The board of Domineering.
 fn domineering_board(alloc: Global, text: &[u8]) -> Result<GameBoard, GameFault>
     ensures read { IfOk result (λ b. position_by domineering (read_of (codes ".#") false text.now) ≡ set_up b) }
     ensures refused { IfErr result (IsFaulty (position_by domineering (read_of (codes ".#") false text.now))) }
@@ -48,7 +47,6 @@ fn domineering_board(alloc: Global, text: &[u8]) -> Result<GameBoard, GameFault>
     }
 }
 
-/// The board of Clobber.
 fn clobber_board(alloc: Global, text: &[u8]) -> Result<GameBoard, GameFault>
     ensures read { IfOk result (λ b. position_by clobber (read_of (codes ".xo") false text.now) ≡ set_up b) }
     ensures refused { IfErr result (IsFaulty (position_by clobber (read_of (codes ".xo") false text.now))) }
@@ -59,7 +57,6 @@ fn clobber_board(alloc: Global, text: &[u8]) -> Result<GameBoard, GameFault>
     }
 }
 
-/// The board of Amazons.
 fn amazons_board(alloc: Global, text: &[u8]) -> Result<GameBoard, GameFault>
     ensures read { IfOk result (λ b. position_by amazons (read_of (codes ".xo#") false text.now) ≡ set_up b) }
     ensures refused { IfErr result (IsFaulty (position_by amazons (read_of (codes ".xo#") false text.now))) }
@@ -70,7 +67,6 @@ fn amazons_board(alloc: Global, text: &[u8]) -> Result<GameBoard, GameFault>
     }
 }
 
-/// The row of Toads and Frogs.
 fn toads_board(alloc: Global, text: &[u8]) -> Result<GameBoard, GameFault>
     ensures read { IfOk result (λ b. position_by toads_game (read_of (codes ".TF") true text.now) ≡ set_up b) }
     ensures refused { IfErr result (IsFaulty (position_by toads_game (read_of (codes ".TF") true text.now))) }
@@ -155,7 +151,7 @@ pub(crate) fn game_board(
     }
 }
 
-/// The fault of a reading, where that isn't want of memory.
+/// The fault of a reading, unless that is out of memory.
 fn fault_of(read: Result<GameBoard, GameFault>) -> Result<Option<GameFault>, AllocError>
     ensures { IfOk result (λ fault. IsFaultOf fault read) }
 {

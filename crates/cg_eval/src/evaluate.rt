@@ -29,7 +29,7 @@ use std::alloc::Global;
 
 /// The canonical form of what the expression means. It goes through the expression from the left, reads each board and
 /// heap, and makes the items in order. The cause is that of the first board or heap that is ill-formed, or of the first
-/// item that is refused, whichever it comes to first; or want of memory.
+/// item that is refused, whichever it comes to first; or out of memory.
 #[cycle(evaluate)]
 pub fn evaluate<S: CellStore<GameFacts<CgBoards>>>(
     alloc: Global,

@@ -17,7 +17,7 @@ use cg_octal::{Octal, OctalFault, read, values};
 use cg_syntax::Text;
 use std::alloc::{AllocError, Global};
 
-/// The fault of a reading, where that isn't want of memory.
+/// The fault of a reading, unless that is out of memory.
 fn fault_of(found: Result<Octal, OctalFault>) -> Result<Option<GameFault>, AllocError>
     ensures { IfOk result (λ fault. IsHeapFault fault found) }
 {
@@ -70,7 +70,7 @@ fn value_of_heap<B: BoardForms, S: CellStore<GameFacts<B>>>(
 }
 
 /// The value of the heap of so many tokens in the octal game of the code. It makes the heap's items in order; the cause
-/// is that the code or the heap is ill-formed, or that of the first item that is refused, or want of memory.
+/// is that the code or the heap is ill-formed, or that of the first item that is refused, or out of memory.
 pub fn heap_value<B: BoardForms, S: CellStore<GameFacts<B>>>(
     alloc: Global,
     work: &mut Work<B, S>,

@@ -20,7 +20,7 @@ use std::alloc::{AllocError, Global};
 ///
 /// It is the first of these that applies: `! syntax c` with the column at which the line leaves the grammar; and else
 /// the reply to its question, as [`answer_query`] gives it. Its last refusal, of a mean or a temperature that needs
-/// more than 60 binary places, never comes where the value's depth is 20 or less. The one fault is want of memory.
+/// more than 60 binary places, never comes where the value's depth is 20 or less. The one fault is out of memory.
 /// Whatever it answers, what the store knew it knows, and its spare falls by the share at most.
 pub fn answer<S: CellStore<GameFacts<CgBoards>>>(
     alloc: Global,

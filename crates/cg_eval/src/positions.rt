@@ -64,7 +64,7 @@ fn value_in<S: CellStore<GameFacts<CgBoards>>>(
 }
 
 /// The value of the board, whose text is read once. It makes the board's items in order; the cause is that the text is
-/// ill-formed, or that of the first item that is refused, or want of memory.
+/// ill-formed, or that of the first item that is refused, or out of memory.
 pub fn board_value<S: CellStore<GameFacts<CgBoards>>>(
     alloc: Global,
     work: &mut Work<CgBoards, S>,

@@ -18,7 +18,7 @@ use cg_syntax::{Expr, Query};
 use std::alloc::Global;
 
 /// The answer to a question. It makes the question's items in order; the cause is that of the first board or heap that
-/// is ill-formed, or of the first item that is refused, whichever it comes to first; or want of memory.
+/// is ill-formed, or of the first item that is refused, whichever it comes to first; or out of memory.
 pub fn answer_question<S: CellStore<GameFacts<CgBoards>>>(
     alloc: Global,
     work: &mut Work<CgBoards, S>,

@@ -26,7 +26,7 @@ pub fn refuse_syntax(alloc: Global, column: u64) -> Result<Answered, AllocError>
     })
 }
 
-/// The text of the refusal of a board. Want of memory has none.
+/// The text of the refusal of a board. Out of memory has none.
 fn board_text(alloc: Global, fault: BoardFault) -> Result<String, AllocError>
     ensures { IfOk result (λ text. string_bytes text ≡ board_text fault) }
 {
@@ -41,7 +41,7 @@ fn board_text(alloc: Global, fault: BoardFault) -> Result<String, AllocError>
     }
 }
 
-/// The text of the refusal of a graph. Want of memory has none.
+/// The text of the refusal of a graph. Out of memory has none.
 fn graph_text(alloc: Global, fault: GraphFault) -> Result<String, AllocError>
     ensures { IfOk result (λ text. string_bytes text ≡ graph_text fault) }
 {
@@ -54,7 +54,7 @@ fn graph_text(alloc: Global, fault: GraphFault) -> Result<String, AllocError>
     }
 }
 
-/// The text of the refusal of the code or the heap of an octal game. Want of memory has none.
+/// The text of the refusal of the code or the heap of an octal game. Out of memory has none.
 fn octal_text(alloc: Global, fault: OctalFault) -> Result<String, AllocError>
     ensures { IfOk result (λ text. string_bytes text ≡ octal_text fault) }
 {
@@ -65,7 +65,7 @@ fn octal_text(alloc: Global, fault: OctalFault) -> Result<String, AllocError>
     }
 }
 
-/// The refusal of an ill-formed board or heap. Want of memory has none.
+/// The refusal of an ill-formed board or heap. Out of memory has none.
 pub fn refuse_board(alloc: Global, fault: GameFault) -> Result<Answered, AllocError>
     ensures { IfOk result (IsRefusedBy (ill_formed fault)) }
 {
@@ -77,7 +77,7 @@ pub fn refuse_board(alloc: Global, fault: GameFault) -> Result<Answered, AllocEr
     Ok(refused(text))
 }
 
-/// The refusal of a question of which an item is refused for this cause. Want of memory has none.
+/// The refusal of a question of which an item is refused for this cause. Out of memory has none.
 pub fn refuse_value(alloc: Global, fault: ValueFault) -> Result<Answered, AllocError>
     ensures { IfOk result (IsRefusedFor fault) }
 {

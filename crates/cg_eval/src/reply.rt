@@ -31,7 +31,7 @@ use std::mem;
 /// `! positions`, `! range`, `! depth` or `! full` where an item of the question is refused; `! range` where the mean
 /// or the temperature of some position of the value needs more than 60 binary places and the question is for a mean,
 /// a temperature or a thermograph; `! long` where a proof has more than 65,536 bytes; and else its answer. The one
-/// fault is want of memory. Whatever it answers, what the store knew it knows, and its spare falls by the share at
+/// fault is out of memory. Whatever it answers, what the store knew it knows, and its spare falls by the share at
 /// most.
 pub fn answer_query<S: CellStore<GameFacts<CgBoards>>>(
     alloc: Global,

@@ -42,7 +42,6 @@ pub enum AskedOfTwo<'a> {
     Check(&'a [u8]),
 }
 
-/// The name of the game.
 fn tell_value<B: BoardForms, S: CellStore<GameFacts<B>>>(
     alloc: Global,
     work: &mut Work<B, S>,
@@ -56,7 +55,6 @@ fn tell_value<B: BoardForms, S: CellStore<GameFacts<B>>>(
     Ok(answer_of(text, a))
 }
 
-/// The letter of who wins.
 fn winner(outcome: Outcome) -> &'static str
     ensures { result.now ≡ winner_of outcome }
 {
@@ -68,7 +66,6 @@ fn winner(outcome: Outcome) -> &'static str
     }
 }
 
-/// Who wins the game.
 fn tell_outcome<B: BoardForms, S: CellStore<GameFacts<B>>>(
     alloc: Global,
     work: &mut Work<B, S>,
@@ -83,7 +80,6 @@ fn tell_outcome<B: BoardForms, S: CellStore<GameFacts<B>>>(
     Ok(answer_of(text, a))
 }
 
-/// The stops of the game.
 fn tell_stops<B: BoardForms, S: CellStore<GameFacts<B>>>(
     alloc: Global,
     work: &mut Work<B, S>,
@@ -169,7 +165,6 @@ fn comparison(at_most: bool, at_least: bool) -> &'static str
     }
 }
 
-/// How the two games compare.
 fn compared<B: BoardForms, S: CellStore<GameFacts<B>>>(
     alloc: Global,
     work: &mut Work<B, S>,

@@ -1,4 +1,4 @@
--- What reading two texts says of them as a coloured_graph.
+-- What reading two texts says of them as a coloured graph.
 use Rattle.std.proofs.Common.{◌≡◌, ◌≢◌, ◌⊎◌, inl, inr, refl, ℕ, suc, ◌+◌, ◌-◌, ◌≤◌, Bool, Option}
 use Rattle.std.proofs.Common.{Some, None, Result, Ok, Err, List, length, ap, sym, ◌∙◌, arith}
 use Rattle.std.specs.Prelude.{IfErr, IfOk}

@@ -1,4 +1,4 @@
--- Vertices and pairs without a fault are a coloured_graph.
+-- Vertices and pairs without a fault are a coloured graph.
 use Rattle.std.proofs.Common.{◌≡◌, refl, ℕ, ◌<◌, ◌≤◌, ◌==◌, Bool, true, false, if◌then◌else◌, Option, Some, None, List, length, ap, arith}
 use Rattle.std.specs.Prelude.{All, codes, nat_lt, position}
 use Rattle.std.proofs.lemmas.Bool.{eq-eqb, lt-ltb}

@@ -16,7 +16,7 @@ use Rattle.cg_graph.specs.declared.fault.GraphFault.{GraphFault}
 use Rattle.cg_graph.specs.declared.fault.GraphFault.TheVariants as faults
 use Rattle.cg_graph.specs.declared.items.PairItem.{PairItem}
 
--- ---- coloured_graphs
+-- ---- coloured graphs
 
 -- which of the two games it is, the colours of the vertices, and which vertices are adjacent
 pub record ColouredGraph : Type 0 where
@@ -44,7 +44,7 @@ edges_of pairs = map (λ e. record { one = e.one; other = e.other }) pairs
 abbrev pub is_between : ℕ → ℕ → Pair → Bool
 is_between k l e = ((e.one == k) && (e.other == l)) || ((e.one == l) && (e.other == k))
 
--- the rules of Col or Snort on the coloured_graph
+-- the rules of Col or Snort on the coloured graph
 abbrev pub coloured_graph_rules : ColouredGraph → GameRules
 coloured_graph_rules coloured_graph = colouring coloured_graph.snort (length coloured_graph.vertices) (edges_of coloured_graph.edges)
 
@@ -113,7 +113,7 @@ pairs_of items = map pair_of items
 
 -- ---- texts
 
--- the two texts read as the coloured_graph
+-- the two texts read as the coloured graph
 pub record IsColouredGraphOf (snort : Bool) (vertices edges : List ℕ) (coloured_graph : ColouredGraph) : Type 0 where
   pub sound : vertices_fault vertices ≡ None
   pub items : List PairItem

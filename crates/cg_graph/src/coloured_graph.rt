@@ -19,7 +19,7 @@ use std::marker::Model;
 /// A position of Col or Snort: which of the two games it is, the colours of 1 to 52 vertices, and which of them are
 /// adjacent. Contracts see these three.
 ///
-/// A player gives a free vertex the own colour, Left `x` and Right `o`. In Snort no neighbour may have the other
+/// A player colours a free vertex in their own colour, Left `x` and Right `o`. In Snort no neighbour may have the other
 /// player's colour, and in Col none may have the own.
 #[derive(Debug, Drop)]
 pub struct Colouring {
@@ -110,7 +110,6 @@ impl Colouring {
     }
 }
 
-/// The two vertices that the letters name.
 fn pair_of(item: &PairItem) -> Pair
     ensures { result ≡ pair_of item.now }
 {

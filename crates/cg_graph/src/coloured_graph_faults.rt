@@ -7,7 +7,6 @@ ghost use Rattle.cg_graph.specs.Items.{IsLettered};
 use crate::fault::GraphFault;
 use crate::items::PairItem;
 
-/// How many vertices there may be.
 const MOST_VERTICES: usize = 52;
 
 /// Whether the byte is none of `.`, `x` and `o`.

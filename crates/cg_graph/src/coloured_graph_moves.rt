@@ -13,7 +13,6 @@ use std::alloc::{AllocError, Global};
 
 const FREE: u8 = b'.';
 
-/// The player's colour.
 fn own(player: Player) -> u8
     ensures { result ≡ own player }
 {
@@ -23,7 +22,6 @@ fn own(player: Player) -> u8
     }
 }
 
-/// The other player's colour.
 fn other(player: Player) -> u8
     ensures { result ≡ other player }
 {
@@ -33,14 +31,14 @@ fn other(player: Player) -> u8
     }
 }
 
-/// The colour that no neighbour may have: in Snort the other player's, and in Col the own.
+/// The colour that no neighbour may have: in Snort the other player's, in Col the player's own.
 fn forbidden(snort: bool, player: Player) -> u8
     ensures { result ≡ forbidden snort player }
 {
     if snort { other(player) } else { own(player) }
 }
 
-/// Whether the player may give the vertex the own colour.
+/// Whether the player may colour the vertex.
 fn may_colour(coloured_graph: &Colouring, board: &Board, player: Player, vertex: u8) -> bool
     requires { vertex < length board.now.cells }
     ensures { result ≡ may_colour coloured_graph.now.snort (edges_of coloured_graph.now.edges) player board.now.cells vertex }
@@ -49,7 +47,7 @@ fn may_colour(coloured_graph: &Colouring, board: &Board, player: Player, vertex:
     board.cell(vertex) == FREE && !has_neighbour(coloured_graph.pairs(), board, vertex, taboo)
 }
 
-/// Puts the board after the player gives this vertex the own colour behind the boards, if the player may.
+/// Appends the board after the player colours this vertex, if the player may.
 fn put_colour(
     alloc: Global,
     coloured_graph: &Colouring,
@@ -72,7 +70,6 @@ fn put_colour(
     Ok(())
 }
 
-/// The boards after the player's moves, vertex by vertex.
 fn boards_of(
     alloc: Global,
     coloured_graph: &Colouring,

@@ -14,7 +14,6 @@ use cg_reading::ReadFault;
 use std::alloc::{AllocError, Global};
 use std::marker::Model;
 
-/// How many edges there may be.
 const MOST_EDGES: usize = 64;
 
 /// A drawing of Hackenbush: 1 to 64 edges with their colours. Contracts see the list of edges.

@@ -12,7 +12,6 @@ use crate::labels::{GONE, settled};
 use cg_moves::{Board, Boards, Pieces, Player, Rules, in_order};
 use std::alloc::{AllocError, Global};
 
-/// Whether the player may cut an edge of this colour.
 fn may_cut(player: Player, colour: u8) -> bool
     ensures { result ≡ may_cut player colour }
 {
@@ -22,7 +21,7 @@ fn may_cut(player: Player, colour: u8) -> bool
     }
 }
 
-/// Puts the board that is left after the player cuts this edge behind the boards, if the player may.
+/// Appends the board after the player cuts this edge, if the player may.
 fn put_cut(
     alloc: Global,
     edges: &[ColouredEdge],
@@ -46,7 +45,6 @@ fn put_cut(
     Ok(())
 }
 
-/// The boards that the player's cuts leave, edge by edge.
 fn boards_of(
     alloc: Global,
     edges: &[ColouredEdge],

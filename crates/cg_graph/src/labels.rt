@@ -11,7 +11,6 @@ use cg_moves::Board;
 /// How many bytes there are up to `Z`.
 const BYTES: usize = 91;
 
-/// The vertex that is the ground.
 const GROUND: u8 = b'0';
 
 /// What stands for an edge that is gone.
@@ -28,7 +27,6 @@ fn own_labels() -> [u8; BYTES]
     labels
 }
 
-/// Puts the new label in the place of the old one.
 fn relabel(labels: &mut [u8], old: u8, new: u8)
     ensures long { length labels.new ≡ length labels.old }
     ensures value { (k : ℕ) → k < length labels.old

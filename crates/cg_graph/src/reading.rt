@@ -12,14 +12,12 @@ use crate::items::{EdgeItem, PairItem};
 use cg_reading::{ReadFault, after_byte, is_byte};
 use std::alloc::Global;
 
-/// Whether the byte names a vertex of Hackenbush.
 fn is_vertex(byte: u8) -> bool
     ensures { result ≡ has vertex byte }
 {
     (b'0' <= byte && byte <= b'9') || (b'A' <= byte && byte <= b'Z')
 }
 
-/// Whether the byte is a colour of Hackenbush.
 fn is_colour(byte: u8) -> bool
     ensures { result ≡ has colour byte }
 {
@@ -78,7 +76,6 @@ fn first_letter(bytes: &[u8]) -> Result<(u8, &[u8]), ReadFault>
     Ok((*byte, rest))
 }
 
-/// An edge.
 #[tactic(auto, unfolding(crate::specs::Reading::edge_at))]
 fn edge(text_end: u64, bytes: &[u8]) -> Result<(EdgeItem, &[u8]), ReadFault>
     requires { length bytes.now ≤ text_end }
@@ -93,7 +90,6 @@ fn edge(text_end: u64, bytes: &[u8]) -> Result<(EdgeItem, &[u8]), ReadFault>
     Ok((EdgeItem { place, edge }, rest))
 }
 
-/// A comma and an edge.
 #[tactic(auto, unfolding(crate::specs::Reading::next_edge_at))]
 fn next_edge(text_end: u64, bytes: &[u8]) -> Result<(EdgeItem, &[u8]), ReadFault>
     requires { length bytes.now ≤ text_end }
@@ -104,7 +100,6 @@ fn next_edge(text_end: u64, bytes: &[u8]) -> Result<(EdgeItem, &[u8]), ReadFault
     edge(text_end, rest)
 }
 
-/// More edges behind these.
 fn more_edges(
     text_end: u64,
     front: Vec<EdgeItem>,
@@ -144,7 +139,6 @@ pub fn edge_items(alloc: Global, text: &[u8]) -> Result<Vec<EdgeItem>, ReadFault
     }
 }
 
-/// A pair.
 #[tactic(auto, unfolding(crate::specs::Reading::pair_at))]
 fn pair(text_end: u64, bytes: &[u8]) -> Result<(PairItem, &[u8]), ReadFault>
     requires { length bytes.now ≤ text_end }
@@ -157,7 +151,6 @@ fn pair(text_end: u64, bytes: &[u8]) -> Result<(PairItem, &[u8]), ReadFault>
     Ok((PairItem { place, one, other }, rest))
 }
 
-/// A comma and a pair.
 #[tactic(auto, unfolding(crate::specs::Reading::next_pair_at))]
 fn next_pair(text_end: u64, bytes: &[u8]) -> Result<(PairItem, &[u8]), ReadFault>
     requires { length bytes.now ≤ text_end }
@@ -168,7 +161,6 @@ fn next_pair(text_end: u64, bytes: &[u8]) -> Result<(PairItem, &[u8]), ReadFault
     pair(text_end, rest)
 }
 
-/// More pairs behind these.
 fn more_pairs(
     text_end: u64,
     front: Vec<PairItem>,
@@ -191,7 +183,6 @@ fn more_pairs(
     Ok((pairs, rest))
 }
 
-/// One pair or more.
 #[tactic(auto, unfolding(crate::specs::Reading::some_pairs_at))]
 fn some_pairs(
     alloc: Global,

@@ -15,7 +15,7 @@ use crate::frame::crop;
 use cg_moves::{Board, Boards, push};
 use std::alloc::{AllocError, Global};
 
-/// Puts the piece of this set behind the boards, if some player has a move in it.
+/// Appends the piece of this set, if some player has a move in it.
 #[inline(always)]
 fn put_piece<N: NeighbourRules>(
     rules: &N,
@@ -42,8 +42,7 @@ fn put_piece<N: NeighbourRules>(
     Ok(())
 }
 
-/// Puts the pieces of the board, of which these are the cells of the first column, behind the others, as [`pieces`]
-/// lists them.
+/// Appends the pieces of the board as [`pieces`] lists them. `first_column` has the cells of its first column.
 #[inline(always)]
 fn append_pieces<N: NeighbourRules>(
     rules: &N,

@@ -117,7 +117,6 @@ fn of_one_text(alloc: Global, kind: GameKind, text: Text) -> Expr
     }
 }
 
-/// The text of a board of a game with one text, between parentheses.
 fn one_text(alloc: Global, kind: GameKind, bytes: &[u8]) -> Result<(Found, &[u8]), ReadFault>
     ensures read { (end : ℕ) → Gives (λ x. (found_of x.0, x.1.now)) result
         (behind_named_at (Of_one_text kind) end bytes.now) }
@@ -138,7 +137,6 @@ fn of_two_texts(kind: GameKind, first: Text, second: Text) -> Expr
     }
 }
 
-/// A position of a game.
 #[tactic(auto, using(cg_query::proofs::TreeOf::game_tree))]
 fn of_game(kind: GameKind, rules: Text, board: Text) -> Expr
     ensures { tree_of result ≡ game kind rules board }
@@ -146,7 +144,6 @@ fn of_game(kind: GameKind, rules: Text, board: Text) -> Expr
     Expr::Game { kind, rules, board }
 }
 
-/// The texts of a board of a game with two texts, between parentheses.
 fn two_texts(alloc: Global, kind: GameKind, bytes: &[u8]) -> Result<(Found, &[u8]), ReadFault>
     ensures read { (end : ℕ) → Gives (λ x. (found_of x.0, x.1.now)) result
         (behind_named_at (Of_two_texts kind) end bytes.now) }
@@ -157,7 +154,6 @@ fn two_texts(alloc: Global, kind: GameKind, bytes: &[u8]) -> Result<(Found, &[u8
     Ok((Found { expr, fault: None }, rest))
 }
 
-/// The code and the heap of an octal game, between parentheses.
 #[tactic(auto, using(cg_query::proofs::TreeOf::octal_tree))]
 fn octal(alloc: Global, bytes: &[u8]) -> Result<(Found, &[u8]), ReadFault>
     ensures read { (end : ℕ) → Gives (λ x. (found_of x.0, x.1.now)) result

@@ -62,7 +62,7 @@ pub fn behind_operand(
     }
 }
 
-/// The same, read and joined also where none stands there.
+/// Like `behind_operand`, without looking ahead.
 #[inline(never)]
 #[tactic(auto, unfolding(cg_grammar::specs::Reading::tail_of_at))]
 fn with_tail(alloc: Global, operand: Found, bytes: &[u8]) -> Result<(Found, &[u8]), ReadFault>
@@ -83,7 +83,6 @@ pub fn sum_of_terms(terms: Vec<Term>) -> Expr
     Expr::Sum(Terms::of(terms))
 }
 
-/// The sum of two.
 #[inline(always)]
 #[tactic(auto, using(cg_query::proofs::TreeOf::two_terms))]
 fn of_two(alloc: Global, first: Expr, second: Expr) -> Result<Expr, ReadFault>
@@ -101,7 +100,6 @@ fn of_two(alloc: Global, first: Expr, second: Expr) -> Result<Expr, ReadFault>
     Ok(sum_of_terms(terms))
 }
 
-/// The sum of three.
 #[inline(always)]
 #[tactic(auto, using(cg_query::proofs::TreeOf::three_terms))]
 fn of_three(alloc: Global, first: Expr, second: Expr, third: Expr) -> Result<Expr, ReadFault>

@@ -14,7 +14,6 @@ use crate::line_reader::LineReader;
 use cg_query::Term;
 use cg_reading::{ReadFault, after_blanks, after_gap, is_blank, is_byte, is_digit};
 
-/// Whether a byte is a sign of a sum.
 fn is_sign(byte: u8) -> bool
     ensures { result ≡ has plus_minus byte }
 {
@@ -61,7 +60,6 @@ impl LineReader {
         }
     }
 
-    /// A term.
     #[cycle(items)]
     #[inline(always)]
     #[tactic(auto, unfolding(cg_grammar::specs::Reading::term_at, cg_grammar::specs::Reading::minus_term_at))]

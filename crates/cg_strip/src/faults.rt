@@ -7,10 +7,8 @@ ghost use Rattle.cg_strip.specs.Views.{items_in};
 
 use crate::items::{Layout, RuleItem, WeightItem};
 
-/// How many weights there may be.
 const MOST_WEIGHTS: usize = 16;
 
-/// How many rules there may be.
 const MOST_RULES: usize = 32;
 
 /// Whether one of these is a weight of the symbol.

@@ -21,7 +21,6 @@ pub(crate) struct HopWords {
     pub(crate) jumps: u64,
 }
 
-/// The player's hops on the board.
 fn hop_words(board: &Board, player: Player) -> HopWords
     requires { toads_game.has board.now ≡ true }
     ensures { AreHopWords player board.now.cells result }
@@ -82,7 +81,7 @@ fn hopped(alloc: Global, board: &Board, replacement: &[u8], cell: u8) -> Result<
     Ok(after)
 }
 
-/// Puts the board with the replacement at this cell behind the boards, if the cell is one of the places.
+/// Appends the board with the replacement at this cell, if the cell is one of the places.
 #[inline(always)]
 fn put_hop(
     alloc: Global,
@@ -106,7 +105,7 @@ fn put_hop(
     Ok(())
 }
 
-/// Puts the boards after the player's hops at this cell behind the boards.
+/// Appends the boards after the player's hops at this cell.
 fn put_hops_at(
     alloc: Global,
     board: &Board,
@@ -135,7 +134,7 @@ fn put_hops_at(
     }
 }
 
-/// Puts the boards after the player's hops, from the first cell on, in the place of these boards.
+/// Replaces `boards` by the boards after the player's hops, from the first cell on.
 fn hops_on(
     alloc: Global,
     board: &Board,

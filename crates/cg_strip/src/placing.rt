@@ -51,7 +51,7 @@ fn written_at(
     Ok(after)
 }
 
-/// Puts the board with the replacement at this cell behind the boards, if the cell is one of the places.
+/// Appends the board with the replacement at this cell, if the cell is one of the places.
 fn place(
     alloc: Global,
     board: &Board,
@@ -92,7 +92,6 @@ pub fn place_all(
     Ok(())
 }
 
-/// Whether the two are one player.
 fn is_same(player: Player, other: Player) -> bool
     ensures { result ≡ is_same_player player other }
 {

@@ -17,7 +17,6 @@ use cg_moves::{Cells, Player};
 use cg_reading::{ReadFault, after_byte, is_byte};
 use std::alloc::Global;
 
-/// A weight.
 #[tactic(auto, unfolding(crate::specs::Reading::weight_at))]
 fn weight(text_end: u64, bytes: &[u8]) -> Result<(WeightItem, &[u8]), ReadFault>
     requires { length bytes.now ≤ text_end }
@@ -41,7 +40,6 @@ fn weight(text_end: u64, bytes: &[u8]) -> Result<(WeightItem, &[u8]), ReadFault>
     Ok((WeightItem { place, weight }, rest))
 }
 
-/// Whose letter it is.
 fn player(letter: u8) -> Player
     ensures { result ≡ player_of letter }
 {
@@ -93,7 +91,6 @@ fn rule_of(place: u64, letter: u8, found: ((u64, Cells), (u64, Cells))) -> RuleI
     }
 }
 
-/// A rule.
 #[tactic(auto, unfolding(crate::specs::Reading::rule_at))]
 fn rule(alloc: Global, text_end: u64, bytes: &[u8]) -> Result<(RuleItem, &[u8]), ReadFault>
     requires { length bytes.now ≤ text_end }
@@ -143,7 +140,6 @@ fn lettered(alloc: Global, text_end: u64, bytes: &[u8]) -> Result<(Item, &[u8]),
     }
 }
 
-/// A weight or a rule.
 #[tactic(auto, unfolding(crate::specs::Reading::item_at))]
 fn item(alloc: Global, text_end: u64, bytes: &[u8]) -> Result<(Item, &[u8]), ReadFault>
     requires { length bytes.now ≤ text_end }
@@ -159,7 +155,6 @@ fn item(alloc: Global, text_end: u64, bytes: &[u8]) -> Result<(Item, &[u8]), Rea
     }
 }
 
-/// A semicolon and a weight or a rule.
 #[tactic(auto, unfolding(crate::specs::Reading::turn_at))]
 fn turn(alloc: Global, text_end: u64, bytes: &[u8]) -> Result<(Item, &[u8]), ReadFault>
     requires { length bytes.now ≤ text_end }
@@ -181,7 +176,6 @@ fn next_rule(alloc: Global, text_end: u64, bytes: &[u8]) -> Result<(RuleItem, &[
     rule(alloc, text_end, rest)
 }
 
-/// More rules behind these.
 fn more_rules(
     alloc: Global,
     text_end: u64,

@@ -19,7 +19,6 @@ pub fn nat(bytes: &[u8]) -> Result<(u16, &[u8]), ReadFault>
     Ok((value as u16, rest))
 }
 
-/// Three numbers.
 #[tactic(auto, unfolding(crate::specs::Reading::numbers_at))]
 fn numbers(bytes: &[u8]) -> Result<((u16, u16, u16), &[u8]), ReadFault>
     ensures read { (end : ℕ) → Gives (λ x. ((x.0.0, (x.0.1, x.0.2)), x.1.now)) result

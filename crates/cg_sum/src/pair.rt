@@ -26,7 +26,7 @@ pub(crate) struct NimberPair {
     pub(crate) nimbers: FirstNimbers,
 }
 
-/// The two games as nimbers, where both are known as some. The only error is want of memory.
+/// The two games as nimbers, where both are known as some. The only error is out of memory.
 pub(crate) fn nimber_pair<B: BoardForms, S: CellStore<GameFacts<B>>>(
     alloc: Global,
     work: &mut Work<B, S>,
@@ -69,7 +69,7 @@ fn pair_of(alloc: Global, first: u64, second: u64, handles: Vec<Handle>) -> Nimb
     }
 }
 
-// The nimbers up to that of n, whose handle is given, in their order. The only error is want of memory.
+// The nimbers up to that of n, whose handle is given, in their order. The only error is out of memory.
 fn nimbers_to<B: BoardForms, S: CellStore<GameFacts<B>>>(
     alloc: Global,
     work: &mut Work<B, S>,
@@ -86,7 +86,7 @@ fn nimbers_to<B: BoardForms, S: CellStore<GameFacts<B>>>(
     Ok(handles)
 }
 
-// The nimbers below n, of which the handle is given, in their order. The only error is want of memory.
+// The nimbers below n, of which the handle is given, in their order. The only error is out of memory.
 fn lesser_nimbers<B: BoardForms, S: CellStore<GameFacts<B>>>(
     alloc: Global,
     work: &mut Work<B, S>,

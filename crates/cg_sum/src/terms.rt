@@ -28,7 +28,7 @@ pub(crate) struct Terms {
 }
 
 /// The positions of the handle's game. `Positions` comes exactly where there are more than the work's limit; the
-/// other error is want of memory.
+/// other error is out of memory.
 pub(crate) fn walked<B: BoardForms, S: CellStore<GameFacts<B>>>(
     alloc: Global,
     work: &mut Work<B, S>,

@@ -55,7 +55,7 @@ pub fn read_lines(
     Ok(Some(sheet.into_lines()))
 }
 
-/// Puts what a line that gets an answer asks at the end of the sheet.
+/// Appends to the sheet what a line with an answer asks.
 fn put_line(
     alloc: Global,
     format: Format,
@@ -74,7 +74,7 @@ fn put_line(
     }
 }
 
-/// Puts what a line of format 1 asks at the end.
+/// Appends what a line of format 1 asks.
 fn put_question(
     alloc: Global,
     sheet: &mut Sheet,
@@ -95,7 +95,7 @@ fn put_question(
     }
 }
 
-/// Puts what a line of format 2 asks at the end, and binds its name.
+/// Appends what a line of format 2 asks, and binds its name.
 fn put_statement(
     alloc: Global,
     sheet: &mut Sheet,
@@ -114,7 +114,7 @@ fn put_statement(
     }
 }
 
-/// Puts what a query asks at the end.
+/// Appends what a query asks.
 fn put_query(alloc: Global, sheet: &mut Sheet, number: u64, query: Query) -> Result<(), AllocError>
     requires { IsSound sheet.old }
     ensures puts { OnOk result (PutsStatement number (asks (question_of query)) sheet.old sheet.new) }
@@ -131,7 +131,7 @@ fn put_query(alloc: Global, sheet: &mut Sheet, number: u64, query: Query) -> Res
     }
 }
 
-/// Puts what a definition asks at the end, and binds its name where it isn't refused.
+/// Appends what a definition asks, and binds its name unless it is refused.
 fn put_definition(
     alloc: Global,
     sheet: &mut Sheet,

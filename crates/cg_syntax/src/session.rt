@@ -104,7 +104,7 @@ pub enum Asked {
 /// A session has format 2 where its first line, without the blanks at both ends, is `cg 2`; then that line gets no
 /// answer, a line may define a name, and each use of a name is replaced by what the last earlier line bound to it. Each
 /// line is refused by the first of `Syntax`, `Unknown` and `Parts` that applies; a definition that is refused binds
-/// nothing. The one fault is want of memory.
+/// nothing. The one fault is out of memory.
 pub fn read_session(alloc: Global, text: &[u8]) -> Result<Session, AllocError>
     ensures format { IfOk result (λ s. s.format ≡ format_number (format_of text.now)) }
     ensures lines { IfOk result (λ s. IsSession text.now (lines_in s.lines)) }

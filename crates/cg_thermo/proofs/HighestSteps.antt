@@ -74,9 +74,9 @@ read-behind xs ys x i h e read =
 pub all_read : (xs : List ℕ) (i x n : ℕ) → All (λ p. p < n) xs → i < length xs → x ≡ get_or xs i x → x < n
 all_read xs i x n all l e = rw e (all i x l)
 
--- ---- the sides of a wall_pair
+-- ---- the sides of a pair of walls
 
--- ---- both sides of a game whose options have wall_pairs
+-- ---- both sides of a game whose options have pairs of walls
 
 greatest_turned : (f : Game → ℤ) (gs : List Game) → greatest (map (λ a. neg_ℤ (f a)) gs) ≡ neg_ℤ (least (map f gs))
 greatest_turned f [] = refl

@@ -1,4 +1,4 @@
--- What is drawn of a wall_pair is the thermograph.
+-- What is drawn of a pair of walls is the thermograph.
 use Rattle.std.proofs.Common.{◌≡◌, refl, ℕ, ◌<◌, ◌≤◌, arith, zero, suc, ◌⊎◌, inl, inr, ap, sym, ◌∙◌, Bool, true, false, cond}
 use Rattle.std.proofs.Common.{List, [], ◌∷◌, map, length, get_or, unsigned_abs, ◌^◌, ℤ, pos, negsuc, neg_ℤ, ◌-ℤ◌, ◌≤ℤ◌}
 use Rattle.std.proofs.lemmas.Int.{ints}

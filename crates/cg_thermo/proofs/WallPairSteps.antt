@@ -1,4 +1,4 @@
--- The wall_pairs of the positions that were walked, and the error that says that a temperature needs more places.
+-- The pairs of walls of the positions that were walked, and the error that says that a temperature needs more places.
 use Rattle.std.proofs.Common.{◌≡◌, ◌⊎◌, refl, ℕ, zero, suc, ◌+◌, ◌<◌, ◌≤◌, arith, inl, inr, ap, sym}
 use Rattle.std.proofs.Common.{◌∙◌, subst, List, [], ◌∷◌, ◌++◌, get_or, length, Result, Err}
 use Rattle.std.proofs.Math.ListN.{get_or-append}
@@ -77,7 +77,7 @@ module _ (gs : List Game) (w : Walk) (fs : List Game) (is : IsWalk gs w fs) (i :
   pub rights_here : rights (game_of fs i) ≡ rs
   rights_here = ap rights both ∙ rights-node ls rs
 
--- ---- wall_pairs
+-- ---- pairs of walls
 
 pub wall_pairs_none : (fs : List Game) (cs : List WallPair) → cs ≡ [] → AreWallPairs fs cs
 wall_pairs_none fs cs e = record { each = λ i c l is. absurd (let n = ap length e in omega (arith, n, l)) }
@@ -99,7 +99,7 @@ wall_pairs_more fs cs ds c h k e = rw e (record {
       | inr b ↦ inl b
     ]
 
--- ---- the wall_pairs of all positions
+-- ---- the pairs of walls of all positions
 
 module _ (g : Game) (fs : List Game) (cs : List WallPair) (is : fs ≡ positions_of g) (wall_pairs : AreWallPairs fs cs)
     (count : length cs ≡ length fs) where

@@ -1,4 +1,4 @@
--- How far the wall_pairs of the positions of a game have come.
+-- How far the pairs of walls of the positions of a game have come.
 use Rattle.std.specs.Prelude.{◌≡◌, ℕ, ◌<◌, List, get_or, length}
 use Rattle.cg_arena.specs.Arena.{game_of, games_of}
 use Rattle.cg_canon.specs.Walk.{indexes_of}
@@ -15,12 +15,12 @@ use Rattle.cg_thermo.specs.Smooths.{Smooth}
 abbrev pub walked : List Game → Walk → List Game
 walked gs w = games_of gs (indexes_of w.positions.items)
 
--- the wall_pair is that of the game, whose temperatures need no more places
+-- the pair of walls is that of the game, whose temperatures need no more places
 pub record HasWallPair (g : Game) (c : WallPair) : Type 0 where
   pub smooth : Smooth places g
   pub draws : Draws g c
 
--- the wall_pairs are those of the first games
+-- the pairs of walls are those of the first games
 pub record AreWallPairs (games : List Game) (wall_pairs : List WallPair) : Type 0 where
   pub each : (i : ℕ) (c : WallPair) → i < length wall_pairs → c ≡ get_or wall_pairs i c → HasWallPair (game_of games i) c
 

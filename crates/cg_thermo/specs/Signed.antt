@@ -1,4 +1,4 @@
--- Corners at points in units of 1 / 2 ^ 60, and what is drawn of a wall_pair.
+-- Corners at points in units of 1 / 2 ^ 60, and what is drawn of a pair of walls.
 use Rattle.std.specs.Prelude.{◌≡◌, Bool, true, false, if◌then◌else◌, map, pos, neg_ℤ}
 use Rattle.cg_dyadic.specs.Number.{ratio}
 use Rattle.cg_dyadic.specs.Wide.{places}
@@ -16,7 +16,7 @@ corner_at negated p = record {
   at = ratio (pos p.at) places;
 }
 
--- the mean and the corners of a wall_pair
+-- the mean and the corners of a pair of walls
 pub record Pictured (c : WallPair) (w : Walls) : Type 0 where
   pub mean : w.mean ≡ ratio (value_at c.right c.end) places
   pub left : w.left ≡ map (corner_at true) (corners (value_at c.left) c.end)

@@ -105,7 +105,7 @@ fn at_point(negated: bool, point: &Point) -> Corner
     }
 }
 
-/// The corners at the points, with the negatives of their values or with these. The only error is want of memory.
+/// The corners at the points, with the negatives of their values or with these. The only error is out of memory.
 pub(crate) fn corners_of(
     alloc: Global,
     points: &[Point],

@@ -24,7 +24,7 @@ fn by_order(at_least: bool, at_most: bool) -> Outcome
     }
 }
 
-/// Who wins the game. The only error is want of memory.
+/// Who wins the game. The only error is out of memory.
 pub fn outcome<B: BoardForms, S: CellStore<GameFacts<B>>>(
     alloc: Global,
     work: &mut Work<B, S>,

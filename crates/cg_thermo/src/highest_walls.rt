@@ -28,7 +28,7 @@ fn side_of(wall_pairs: &[WallPair], place: usize, right: bool) -> &Rise
 }
 
 /// The greatest of the right walls of the games at the places, or of the negatives of their left walls. The only error
-/// is want of memory.
+/// is out of memory.
 #[inline(always)]
 pub(crate) fn highest_wall(
     alloc: Global,

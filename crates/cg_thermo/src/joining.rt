@@ -1,4 +1,4 @@
-//! One step: the wall_pair of a game from the walls of its options.
+//! One step: the pair of walls of a game from the walls of its options.
 ghost use Rattle.std.specs.Prelude.{◌≡◌, ◌≤ℤ◌, pos, IfOk, Err};
 ghost use Rattle.cg_walls.specs.Rises.{IsWall, gap};
 ghost use Rattle.cg_thermo.specs.Joins.{Joins, Jumps};
@@ -8,8 +8,8 @@ use crate::wall_pair::WallPair;
 use cg_walls::{Rise, meeting, turned};
 use std::alloc::Global;
 
-/// The wall_pair of a game, from the greatest right wall of the Left options and the greatest negative of a left wall
-/// of the Right options. `Range` comes exactly where the scaffolds pass each other between two whole units.
+/// The pair of walls of a game, from the greatest right wall of the Left options and the greatest negative of a left
+/// wall of the Right options. `Range` comes exactly where the scaffolds pass each other between two whole units.
 pub(crate) fn joined(alloc: Global, p: &Rise, q: &Rise) -> Result<WallPair, ThermoFault>
     requires p { IsWall p.now }
     requires q { IsWall q.now }

@@ -1,4 +1,4 @@
-//! The wall_pairs of the positions of a game.
+//! The pairs of walls of the positions of a game.
 ghost use Rattle.std.specs.Prelude.{◌≡◌, ◌<◌, IfOk, Err, length};
 ghost use Rattle.cg_dyadic.specs.Number.{InRange};
 ghost use Rattle.cg_form.specs.Game.{number};
@@ -17,7 +17,7 @@ use cg_nodes::{BoardForms, GameFacts};
 use cg_walls::Rise;
 use std::alloc::Global;
 
-// The wall_pair of a number.
+// The pair of walls of a number.
 fn number_wall_pair(alloc: Global, x: Dyadic) -> WallPair
     requires { InRange x }
     ensures { HasWallPair (number x) result }
@@ -30,7 +30,7 @@ fn number_wall_pair(alloc: Global, x: Dyadic) -> WallPair
     }
 }
 
-// The wall_pair of the position at the place, where those of the positions before it were found.
+// The pair of walls of the position at the place, where those of the positions before it were found.
 fn wall_pair_at<B: BoardForms, S: CellStore<GameFacts<B>>>(
     alloc: Global,
     work: &Work<B, S>,
@@ -58,7 +58,7 @@ fn wall_pair_at<B: BoardForms, S: CellStore<GameFacts<B>>>(
     }
 }
 
-/// The wall_pairs of the positions. `Range` comes exactly where the temperature of some position needs more than 60
+/// The pairs of walls of the positions. `Range` comes exactly where the temperature of some position needs more than 60
 /// binary places.
 pub(crate) fn wall_pairs_of<B: BoardForms, S: CellStore<GameFacts<B>>>(
     alloc: Global,

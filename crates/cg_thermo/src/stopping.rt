@@ -14,7 +14,7 @@ use cg_cells::CellStore;
 use cg_nodes::{BoardForms, GameFacts, Handle};
 use std::alloc::{AllocError, Global};
 
-/// The stops of the game (Siegel, Combinatorial Game Theory (2013), II.3). The only error is want of memory.
+/// The stops of the game (Siegel, Combinatorial Game Theory (2013), II.3). The only error is out of memory.
 pub fn stops<B: BoardForms, S: CellStore<GameFacts<B>>>(
     alloc: Global,
     work: &mut Work<B, S>,

@@ -67,7 +67,7 @@ fn temperature<B: BoardForms, S: CellStore<GameFacts<B>>>(
     }
 }
 
-// What is drawn of the wall_pair.
+// What is drawn of the pair of walls.
 fn pictured(alloc: Global, wall_pair: &WallPair, temp: Wide) -> Result<Walls, AllocError>
     requires left { IsWall wall_pair.now.left }
     requires right { IsWall wall_pair.now.right }
@@ -88,7 +88,7 @@ fn pictured(alloc: Global, wall_pair: &WallPair, temp: Wide) -> Result<Walls, Al
     })
 }
 
-// The positions of the game. The only error is want of memory.
+// The positions of the game. The only error is out of memory.
 fn each_position<B: BoardForms, S: CellStore<GameFacts<B>>>(
     alloc: Global,
     work: &mut Work<B, S>,
@@ -107,7 +107,7 @@ fn each_position<B: BoardForms, S: CellStore<GameFacts<B>>>(
 
 /// The thermograph of the game (Siegel, Combinatorial Game Theory (2013), II.5). `Range` comes exactly where the mean
 /// or the temperature of some position needs more than 60 binary places, and never for a game of a depth of at most 20.
-/// The other error is want of memory.
+/// The other error is out of memory.
 pub fn thermograph<B: BoardForms, S: CellStore<GameFacts<B>>>(
     alloc: Global,
     work: &mut Work<B, S>,

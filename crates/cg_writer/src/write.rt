@@ -11,7 +11,7 @@ use cg_query::{Expr, Query, Text};
 use std::alloc::{AllocError, Global};
 
 /// A line that reads as the query. It takes a query that some line reads as, and whose trees have at most 64 nodes on
-/// each path. The only error is want of memory.
+/// each path. The only error is out of memory.
 pub fn write_query(alloc: Global, query: &Query) -> Result<String, AllocError>
     requires read { (line : List ℕ) × Reads line (question_of query.now) }
     requires low { QuestionIs (λ t. height t ≤ 64) (question_of query.now) }
@@ -23,7 +23,6 @@ pub fn write_query(alloc: Global, query: &Query) -> Result<String, AllocError>
     Ok(String::from_utf8(text).unwrap())
 }
 
-/// Puts the query at the end.
 fn push_query(alloc: Global, text: &mut Vec<u8>, query: &Query) -> Result<(), AllocError>
     ensures { OnOk result (text.new.items ≡ text.old.items ++ asked_text (question_of query.now)) }
 {
@@ -53,7 +52,6 @@ fn push_asked(
     push_expr(alloc, text, expr)
 }
 
-/// Puts the words, and behind them both expressions, at the end.
 fn push_both(
     alloc: Global,
     text: &mut Vec<u8>,

@@ -33,7 +33,6 @@ pub fn push_expr(alloc: Global, text: &mut Vec<u8>, expr: &Expr) -> Result<(), A
     }
 }
 
-/// A minus, and the expression behind it.
 #[cycle(push_expr)]
 fn push_negative(alloc: Global, text: &mut Vec<u8>, inner: &Expr) -> Result<(), AllocError>
     ensures { OnOk result (text.new.items ≡ text.old.items
@@ -43,7 +42,6 @@ fn push_negative(alloc: Global, text: &mut Vec<u8>, inner: &Expr) -> Result<(), 
     push_operand(alloc, text, inner)
 }
 
-/// A count, a point, and the expression behind it.
 #[cycle(push_expr)]
 fn push_multiple(
     alloc: Global,
@@ -72,7 +70,6 @@ fn push_operand(alloc: Global, text: &mut Vec<u8>, expr: &Expr) -> Result<(), Al
     }
 }
 
-/// An expression between parentheses.
 #[cycle(push_expr)]
 fn push_enclosed(alloc: Global, text: &mut Vec<u8>, expr: &Expr) -> Result<(), AllocError>
     ensures { OnOk result (text.new.items ≡ text.old.items ++ (40 ∷ (text_of (tree_of expr.now) ++ (41 ∷ [])))) }
@@ -83,7 +80,6 @@ fn push_enclosed(alloc: Global, text: &mut Vec<u8>, expr: &Expr) -> Result<(), A
     Ok(())
 }
 
-/// Whether the expression is braces.
 fn are_braces(expr: &Expr) -> bool
     ensures { result ≡ is_braces (tree_of expr.now) }
 {

@@ -46,7 +46,6 @@ pub fn push_ups(
     }
 }
 
-/// The byte of an arrow.
 fn arrow(down: bool) -> u8
     ensures { result ≡ cond down 118 94 }
 {
@@ -169,7 +168,6 @@ pub fn push_octal(
     Ok(())
 }
 
-/// The name of a game.
 fn push_kind(text: &mut Vec<u8>, kind: GameKind) -> Result<(), AllocError>
     ensures { OnOk result (text.new.items ≡ text.old.items ++ kind_text kind) }
 {

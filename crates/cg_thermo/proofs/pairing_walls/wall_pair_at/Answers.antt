@@ -1,4 +1,4 @@
--- A number's wall_pair, or that of a game from the wall_pairs of its options.
+-- The pair of walls of a number, or that of a game from the pairs of walls of its options.
 use Rattle.std.proofs.Common.{sym, ◌∙◌, subst, ℕ, ◌<◌, All, List, length, true, false}
 use Rattle.std.specs.List.{slice_range}
 use Rattle.cg_arena.specs.Arena.{game_of, games_of}

@@ -1,4 +1,4 @@
--- One wall_pair more.
+-- One pair of walls more.
 use Rattle.std.proofs.Common.{◌+◌, arith, ap, sym, ◌∙◌, subst, ℕ, length}
 use Rattle.std.proofs.lemmas.List.{length-append}
 use Rattle.std.proofs.lemmas.Result.{err_from_is_err_and}

@@ -1,4 +1,4 @@
--- The last wall_pair is that of the game.
+-- The last pair of walls is that of the game.
 use Rattle.std.proofs.Common.{◌≡◌, ◌-◌, arith, ap, sym, ◌∙◌, subst}
 use Rattle.std.proofs.lemmas.Result.{err_from_is_err_and}
 use Rattle.cg_arena.specs.Arena.{game_of}
@@ -23,7 +23,7 @@ listed g c =
     ap (λ z. walked z.arena c.in_ok-walk.walk) c.each_position.ensures.same ∙ c.in_ok-walk.ensures.walk.at.1
     ∙ ap positions_of c.in_ok-game.ensures.game.is
 
--- the wall_pair is that of the game
+-- the pair of walls is that of the game
 own : (g : given.Over) (c : After-index-wall_pair g)
     → walked c.each_position.new.work.arena c.in_ok-walk.walk ≡ positions_of (game_at (work_state g.S.CellStore.state c.args.work.now) c.args.a)
     → HasWallPair (game_at (work_state g.S.CellStore.state c.args.work.now) c.args.a) c.index-wall_pair.result.now
