@@ -33,9 +33,10 @@ SLOW = {
     "4,096 boards of clobber 8x8", "4,096 boards of domineering 8x8", "4,096 boards refused for their share",
     "4,096 boards refused for their share, the first 64", "4,096 comparisons", "4,096 strips of 64",
     "4,096 strips with 14 symbols", "4,096 sums", "4,096 thermographs", "a great nimber and hot games", "a multiple of one",
-    "a multiple of tiny", "a multiple of tiny and star", "bypass through nimbers twice", "hackenbush of 64 green edges",
-    "nimbers with ups as options", "sum of ones", "sum of switches", "switches as many as fit", "tinies as options",
-    "two ups",
+    "a multiple of tiny", "a multiple of tiny and star", "a nimber of 200 and hot games",
+    "a nimber of 200 and three hot games", "bypass through nimbers twice", "hackenbush of 64 green edges",
+    "nimbers with ups as options", "sum of ones", "sum of switches", "switches as many as fit",
+    "the greatest nimber and hot games", "tinies as options", "two ups",
 }
 SMALLER = {
     "a multiple of a hot game": ["--cells", "400009"], "a multiple of a hot game with star": ["--cells", "400009"],
