@@ -1,7 +1,7 @@
 -- Parts by numbers: a part's number is its place among those that were found.
 use Rattle.std.specs.Prelude.{◌≡◌, ℕ, ◌<◌, All, List, [], ◌∷◌, ◌++◌, length}
 use Rattle.cg_moves.specs.declared.graph.Adjacency.{Adjacency}
-use Rattle.cg_moves.specs.declared.linked.Linked.{Linked}
+use Rattle.cg_moves.specs.declared.linked.Linking.{Linking}
 use Rattle.cg_moves.specs.Grid.{Grid}
 use Rattle.cg_moves.specs.Graph.{IsAt, IsNext, StandAt}
 use Rattle.cg_moves.specs.Lawful.{IsLawful}
@@ -30,7 +30,7 @@ pub record IsLinked (w : Walk) (found : List Grid) (nexts : List Adjacency) (cou
   pub linked : AreLinked w.game (parts w) counts numbers found found nexts
   pub inside : All (λ n. n < length found) numbers
 
-abbrev pub IsLinking : Walk → Linked → Type 0
+abbrev pub IsLinking : Walk → Linking → Type 0
 IsLinking w s = IsLinked w s.found s.next.items s.counts.items s.numbers.items
 
 -- each of the boards is its own only part

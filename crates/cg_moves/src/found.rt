@@ -7,7 +7,8 @@ ghost use Rattle.cg_moves.specs.Grid.{IsGrid};
 ghost use Rattle.cg_moves.specs.Keys.{key_number, key_of};
 ghost use Rattle.cg_moves.specs.Rules.{In};
 
-use crate::{Board, BoardKey};
+use crate::pushing::narrowed;
+use crate::{Board, BoardKey, Boards};
 use cg_hash_index::HashIndex;
 use std::alloc::{AllocError, Global};
 use std::marker::Model;
@@ -74,6 +75,17 @@ impl Found {
         &self.boards[number]
     }
 
+    /// The boards, in the order in which they were found, without what they are looked for by.
+    pub(crate) fn into_boards(self) -> Boards
+        ensures { result ≡ self }
+    {
+        let Found {
+            boards,
+            by_number: _,
+        } = self;
+        Boards::of(boards)
+    }
+
     /// The number of the board whose key has this number, if it was found. All have the same symbols.
     #[inline(always)]
     fn known(&self, board: &Board, key_hash: u32) -> Option<usize>
@@ -98,14 +110,14 @@ impl Found {
 
     /// Puts a new board, whose key has this number, behind the others, and gives its number. All have the same symbols.
     #[inline(never)]
-    fn put(&mut self, board: Board, key_hash: u32) -> Result<usize, AllocError>
+    fn put(&mut self, board: Board, key_hash: u32) -> Result<u32, AllocError>
         requires same_symbols { SameSymbols (self.old ++ (board ∷ [])) }
         requires grid { IsGrid board }
         requires hash { key_hash ≡ key_number (key_of board) }
         ensures boards { IfOk result (λ _. self.new ≡ self.old ++ (board ∷ [])) }
         ensures number { IfOk result (λ number. number ≡ length self.old) }
     {
-        let number = self.boards.len();
+        let number = narrowed(self.boards.len())?;
         self.boards.reserve(1)?;
         self.by_number.add(key_hash)?;
         self.boards.push(board)?;
@@ -114,14 +126,14 @@ impl Found {
 
     /// The number of the board, which is put behind the others, unless it was found. All have the same symbols.
     #[inline(always)]
-    pub(crate) fn number_of(&mut self, alloc: Global, board: &Board) -> Result<usize, AllocError>
+    pub(crate) fn number_of(&mut self, alloc: Global, board: &Board) -> Result<u32, AllocError>
         requires { SameSymbols (self.old ++ (board.now ∷ [])) }
         ensures boards { IfOk result (λ _. self.new ≡ one_more self.old board.now) }
         ensures number { IfOk result (λ number. IsAt self.new number board.now) }
     {
         let key_hash = board.key().number();
         match self.known(board, key_hash) {
-            Some(number) => Ok(number),
+            Some(number) => narrowed(number),
             None => self.put(board.copy(alloc)?, key_hash),
         }
     }

@@ -63,17 +63,17 @@ returns-clause-linking g c =
     let two = c.in_ok-link_player-2.ensures in
     let mid = c.link_player.new.linked in
     let end = c.link_player-2.new.linked in
-    let a : c.len-first_count.result ≡ length s.counts.items = omega arith in
-    let b : c.len-first_place.result ≡ length s.numbers.items = omega arith in
-    let d : c.len-first_right.result ≡ length mid.counts.items = omega arith in
-    let e : c.len-end_count.result ≡ length end.counts.items = omega arith in
-    let f : c.len-end_place.result ≡ length end.numbers.items = omega arith in
+    let a : c.in_ok-first_count.first_count ≡ length s.counts.items = omega arith in
+    let b : c.in_ok-first_place.first_place ≡ length s.numbers.items = omega arith in
+    let d : c.in_ok-first_right.first_right ≡ length mid.counts.items = omega arith in
+    let e : c.in_ok-end_count.end_count ≡ length end.counts.items = omega arith in
+    let f : c.in_ok-end_place.end_place ≡ length end.numbers.items = omega arith in
     let next : Adjacency = record {
-      lefts = c.len-first_right.result - c.len-first_count.result;
-      first_count = c.len-first_count.result;
-      moves = c.len-end_count.result - c.len-first_count.result;
-      first_place = c.len-first_place.result;
-      parts = c.len-end_place.result - c.len-first_place.result;
+      lefts = c.in_ok-first_right.first_right - c.in_ok-first_count.first_count;
+      first_count = c.in_ok-first_count.first_count;
+      moves = c.in_ok-end_count.end_count - c.in_ok-first_count.first_count;
+      first_place = c.in_ok-first_place.first_place;
+      parts = c.in_ok-end_place.end_place - c.in_ok-first_place.first_place;
     } in
     linking-done w c.requires.1.0 s.found s.next.items s.counts.items s.numbers.items x p at mid.found end.found mid.numbers.items
     end.numbers.items mid.counts.items end.counts.items next one.found two.found one.numbers two.numbers one.counts two.counts
