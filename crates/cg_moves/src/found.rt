@@ -35,7 +35,7 @@ pub(crate) struct Found {
 impl Model for Found {
     ghost use Rattle.std.specs.Prelude.{List};
     ghost use Rattle.std.specs.Coded.{coded_list};
-    ghost use Rattle.cg_moves.specs.Found.{AreNumbers};
+    ghost use Rattle.cg_moves.specs.Found.{AreFew, AreNumbers};
     ghost use Rattle.cg_moves.specs.Grid.{Grid};
     ghost use Rattle.cg_moves.specs.GridCode.{grid_code};
     ghost use Rattle.cg_moves.specs.Keys.{AreGrids};
@@ -46,7 +46,7 @@ impl Model for Found {
 
     ghost view = { λ s. s.boards.items };
 
-    ghost invariant = { λ s. AreNumbers s.by_number s.boards.items × AreGrids s.boards.items };
+    ghost invariant = { λ s. AreNumbers s.by_number s.boards.items × AreGrids s.boards.items × AreFew s.boards.items };
 }
 
 impl Found {
@@ -88,7 +88,7 @@ impl Found {
 
     /// The number of the board whose key has this number, if it was found. All have the same symbols.
     #[inline(always)]
-    fn known(&self, board: &Board, key_hash: u32) -> Option<usize>
+    fn known(&self, board: &Board, key_hash: u32) -> Option<u32>
         requires same_symbols { SameSymbols (self.now ++ (board.now ∷ [])) }
         requires hash { key_hash ≡ key_number (key_of board.now) }
         ensures number { IfSome result (λ number. IsAt self.now number board.now) }
@@ -96,12 +96,17 @@ impl Found {
     {
         let key = board.key();
         let boards = self.boards.as_slice();
-        self.by_number
-            .find(key_hash, |number| has_key(boards, number, &key))
+        let found = self
+            .by_number
+            .find(key_hash, |number| has_key(boards, number, &key));
+        match found {
+            Some(number) => Some(number as u32),
+            None => None,
+        }
     }
 
     /// The number of the board, if it was found. All have the same symbols.
-    pub(crate) fn find(&self, board: &Board) -> Option<usize>
+    pub(crate) fn find(&self, board: &Board) -> Option<u32>
         requires { SameSymbols (self.now ++ (board.now ∷ [])) }
         ensures { IfSome result (λ number. IsAt self.now number board.now) }
     {
@@ -133,7 +138,7 @@ impl Found {
     {
         let key_hash = board.key().number();
         match self.known(board, key_hash) {
-            Some(number) => narrowed(number),
+            Some(number) => Ok(number),
             None => self.put(board.copy(alloc)?, key_hash),
         }
     }

@@ -1,12 +1,10 @@
 //! Parts by numbers: what play can come to, found in breadth, and what comes next after each part, listed once.
 ghost use Rattle.std.specs.Prelude.{◌≡◌, ◌+◌, ◌<◌, ◌≤◌, ◌∷◌, ◌++◌, [], true, IfOk, List, OnOk, length, map, Err};
 ghost use Rattle.std.specs.List.{flat_map};
-ghost use Rattle.cg_moves.specs.Found.{SameSymbols};
 ghost use Rattle.cg_moves.specs.Grid.{Grid};
 ghost use Rattle.cg_moves.specs.Kept.{kept};
-ghost use Rattle.cg_moves.specs.Lawful.{IsLawful};
-ghost use Rattle.cg_moves.specs.Linked.{AreUncut, CanLink, IsLinking, IsWider, NumberedAs};
-ghost use Rattle.cg_moves.specs.Plays.{MayGo, parts_of};
+ghost use Rattle.cg_moves.specs.Linked.{CanLink, IsLinking, IsWider, MayLink, NumberedAs};
+ghost use Rattle.cg_moves.specs.Plays.{parts_of};
 ghost use Rattle.cg_moves.specs.Rules.{boards_after};
 ghost use Rattle.cg_moves.specs.Visiting.{CanVisit};
 ghost use Rattle.cg_moves.specs.Walking.{reached, walk_of};
@@ -38,11 +36,7 @@ fn link_player<R: Rules>(
     room: &mut Room,
     linked: &mut Linking,
 ) -> Result<(), AllocError>
-    requires lawful { IsLawful (R.game rules.now) }
-    requires may { MayGo (R.game rules.now) edges }
-    requires has { (R.game rules.now).has board.now ≡ true }
-    requires uncut { AreUncut (parts_of (R.game rules.now) edges) linked.old.found }
-    requires same_symbols { SameSymbols (linked.old.found ++ (board.now ∷ [])) }
+    requires { MayLink (R.game rules.now) edges linked.old.found board.now }
     ensures next { linked.new.next ≡ linked.old.next }
     ensures found { IfOk result (λ _. linked.new.found ≡ kept linked.old.found
         (flat_map (parts_of (R.game rules.now) edges) (boards_after (R.game rules.now) player board.now))) }

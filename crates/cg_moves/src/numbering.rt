@@ -72,7 +72,7 @@ fn number_cut<R: Rules>(
 {
     if let Some(number) = linked.found.find(board) {
         push(&mut linked.counts, 1)?;
-        return push_count(&mut linked.numbers, number);
+        return push(&mut linked.numbers, number);
     }
     rules.pieces_into(alloc, board, own)?;
     push_count(&mut linked.counts, own.len())?;

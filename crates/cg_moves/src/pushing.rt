@@ -1,18 +1,27 @@
 //! An item more behind others, and counts in 32 bits.
-ghost use Rattle.std.specs.Prelude.{◌≡◌, ◌++◌, [], ◌∷◌, IfOk, OnOk};
+ghost use Rattle.std.specs.Prelude.{◌≡◌, ◌<◌, ◌++◌, [], ◌∷◌, IfOk, OnOk, vec_capacity, vec_len};
 
 use std::alloc::AllocError;
+
+/// Takes room for one item more.
+#[cold]
+#[inline(never)]
+fn take_room<T>(items: &mut Vec<T>) -> Result<(), AllocError>
+    ensures items { items.new.items ≡ items.old.items }
+    ensures room { OnOk result (vec_len items.new < vec_capacity items.new) }
+{
+    items.reserve(1)
+}
 
 /// Puts the item behind the others: with no call where there is room for it, as there mostly is.
 #[inline(always)]
 pub fn push<T: Drop>(items: &mut Vec<T>, item: T) -> Result<(), AllocError>
     ensures { OnOk result (items.new.items ≡ items.old.items ++ (item ∷ [])) }
 {
-    if items.len() < items.capacity() {
-        items.push_reserved(item);
-        return Ok(());
+    if items.len() >= items.capacity() {
+        take_room(items)?;
     }
-    items.push(item)?;
+    items.push_reserved(item);
     Ok(())
 }
 

@@ -8,7 +8,7 @@ use Rattle.cg_moves.specs.Rules.{boards_after}
 use Rattle.cg_moves.specs.Walking.{walk_of}
 use Rattle.cg_moves.proofs.Broad.{found-kept}
 use Rattle.cg_moves.proofs.Carried.{ok_any, ok_is}
-use Rattle.cg_moves.proofs.Links.{lefts-among, link-has, link-same, link-uncut, linking-done, number-at, wider-twice}
+use Rattle.cg_moves.proofs.Links.{lefts-among, linking-done, may-link, number-at, wider-twice}
 use Rattle.cg_moves.proofs.linking.link.Goals as goal
 
 pub link_player-requires : goal.link_player-requires
@@ -20,14 +20,7 @@ link_player-requires g c =
     let n : c.len.result ≡ length s.next.items = omega arith in
     let at = number-at s.found s.next.items c.len.result p c.board.result.now n (ok_is p c.board.result.now c.in_ok-board.ensures)
     c.board.ensures in
-    let can = c.requires.1.0 in
-    record {
-      lawful = can.lawful;
-      may = can.may;
-      has = link-has w can s.found s.next.items s.counts.items s.numbers.items x p at;
-      uncut = link-uncut w can s.found s.next.items s.counts.items s.numbers.items x p at s.found x.among;
-      same_symbols = link-same w can s.found s.next.items s.counts.items s.numbers.items x p at s.found x.among;
-    }
+    may-link w c.requires.1.0 s.found s.next.items s.counts.items s.numbers.items x p at s.found x.among
 
 pub link_player-requires-2 : goal.link_player-requires-2
 link_player-requires-2 g c =
@@ -38,17 +31,9 @@ link_player-requires-2 g c =
     let n : c.len.result ≡ length s.next.items = omega arith in
     let at = number-at s.found s.next.items c.len.result p c.board.result.now n (ok_is p c.board.result.now c.in_ok-board.ensures)
     c.board.ensures in
-    let can = c.requires.1.0 in
     let mid = c.link_player.new.linked.found in
-    let among = found-kept w s.found x.among _ mid c.in_ok-link_player.ensures.found (lefts-among w can s.found s.next.items
-    s.counts.items s.numbers.items x p at) in
-    record {
-      lawful = can.lawful;
-      may = can.may;
-      has = link-has w can s.found s.next.items s.counts.items s.numbers.items x p at;
-      uncut = link-uncut w can s.found s.next.items s.counts.items s.numbers.items x p at mid among;
-      same_symbols = link-same w can s.found s.next.items s.counts.items s.numbers.items x p at mid among;
-    }
+    may-link w c.requires.1.0 s.found s.next.items s.counts.items s.numbers.items x p at mid (found-kept w s.found x.among _ mid
+    c.in_ok-link_player.ensures.found (lefts-among w c.requires.1.0 s.found s.next.items s.counts.items s.numbers.items x p at))
 
 pub returns-clause-linking : goal.returns-clause-linking
 returns-clause-linking g c =

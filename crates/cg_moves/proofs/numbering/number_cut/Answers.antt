@@ -11,23 +11,23 @@ pub returns-in-Some-clause-found : goal.returns-in-Some-clause-found
 returns-in-Some-clause-found g c =
     let p = c.args.board.now in
     let s = c.args.linked.now in
-    ok_any _ c.push_count.result (known-found (pieces (g.R.Rules.game c.args.rules.now)) s.found p c.in-Some.number
+    ok_any _ c.push-in-Some.result (known-found (pieces (g.R.Rules.game c.args.rules.now)) s.found p c.in-Some.number
     c.in-Some.ensures (c.requires.uncut p (at-in s.found c.in-Some.number p c.in-Some.ensures)))
 
 pub returns-in-Some-clause-numbers : goal.returns-in-Some-clause-numbers
 returns-in-Some-clause-numbers g c =
     let p = c.args.board.now in
     let s = c.args.linked.now in
-    if_ok _ _ c.push_count.result (λ _. known-numbered (pieces (g.R.Rules.game c.args.rules.now)) s.found p c.in-Some.number
+    if_ok _ _ c.push-in-Some.result (λ _. known-numbered (pieces (g.R.Rules.game c.args.rules.now)) s.found p c.in-Some.number
     c.in-Some.ensures (c.requires.uncut p (at-in s.found c.in-Some.number p c.in-Some.ensures)) s.numbers.items
-    c.push_count.new.counts.items) c.push_count.ensures
+    c.push-in-Some.new.items.items) c.push-in-Some.ensures
 
 pub returns-in-Some-clause-counts : goal.returns-in-Some-clause-counts
 returns-in-Some-clause-counts g c =
     let p = c.args.board.now in
     let s = c.args.linked.now in
     let alone = c.requires.uncut p (at-in s.found c.in-Some.number p c.in-Some.ensures) in
-    ok_any _ c.push_count.result (c.in_ok-push.ensures ∙ ap (λ z. s.counts.items ++ (length z ∷ [])) (sym alone))
+    ok_any _ c.push-in-Some.result (c.in_ok-push.ensures ∙ ap (λ z. s.counts.items ++ (length z ∷ [])) (sym alone))
 
 pub number_all-requires : goal.number_all-requires
 number_all-requires g c =

@@ -1,5 +1,4 @@
 use Rattle.std.proofs.Common.{◌∙◌}
-use Rattle.cg_moves.specs.Rules.{pieces}
 use Rattle.cg_moves.proofs.Numberings.{all_pieces-same}
 use Rattle.cg_moves.proofs.numbering.number_pieces.Goals as goal
 

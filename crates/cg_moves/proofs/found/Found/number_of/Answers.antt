@@ -1,8 +1,7 @@
 use Rattle.std.proofs.Common.{◌≡◌, ◌∷◌, ◌++◌, [], ap, sym, ◌∙◌}
 use Rattle.cg_form.proofs.Firsts.{one_more-new, one_more-there}
-use Rattle.cg_moves.specs.Graph.{IsAt}
 use Rattle.cg_moves.specs.Kept.{one_more}
-use Rattle.cg_moves.proofs.Carried.{if_ok, ok_any, ok_is}
+use Rattle.cg_moves.proofs.Carried.{if_ok, ok_is}
 use Rattle.cg_moves.proofs.FoundKeys.{put-number}
 use Rattle.cg_moves.proofs.Same.{boards}
 use Rattle.cg_moves.proofs.PlaceLemmas.{at-in}
@@ -10,13 +9,7 @@ use Rattle.cg_moves.proofs.found.Found.number_of.Goals as goal
 
 pub returns-in-Some-clause-boards : goal.returns-in-Some-clause-boards
 returns-in-Some-clause-boards c =
-    ok_any _ c.narrowed.result (sym (one_more-there boards c.args.self.now c.args.board.now
-    (at-in c.args.self.now c.in-Some.number c.args.board.now c.in-Some.ensures.number)))
-
-pub returns-in-Some-clause-number : goal.returns-in-Some-clause-number
-returns-in-Some-clause-number c =
-    if_ok (λ n. n ≡ c.in-Some.number) (λ n. IsAt c.args.self.now n c.args.board.now) c.narrowed.result (λ n e.
-    rw e c.in-Some.ensures.number) c.narrowed.ensures
+    sym (one_more-there boards c.args.self.now c.args.board.now (at-in c.args.self.now c.in-Some.number c.args.board.now c.in-Some.ensures.number))
 
 pub put-requires-clause-same_symbols : goal.put-requires-clause-same_symbols
 put-requires-clause-same_symbols c =
