@@ -155,7 +155,7 @@ impl Rules for Clobber {
         _alloc: Global,
         boards: &[Board],
         room: &mut Vec<Board>,
-        counts: &mut Vec<usize>,
+        counts: &mut Vec<u32>,
     ) -> Result<(), AllocError> {
         pieces_of_all_into(self, boards, room, counts)
     }

@@ -123,7 +123,7 @@ impl Rules for Domineering {
         _alloc: Global,
         boards: &[Board],
         room: &mut Vec<Board>,
-        counts: &mut Vec<usize>,
+        counts: &mut Vec<u32>,
     ) -> Result<(), AllocError> {
         pieces_of_all_into(self, boards, room, counts)
     }

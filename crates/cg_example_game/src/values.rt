@@ -30,10 +30,10 @@ fn number(word: &str) -> anyhow::Result<Form> {
 }
 
 /// Copies of the trees at these places.
-fn at_places(alloc: Global, trees: &[Form], places: &[usize]) -> anyhow::Result<Options> {
+fn at_places(alloc: Global, trees: &[Form], places: &[u32]) -> anyhow::Result<Options> {
     let mut options = Vec::new(alloc);
     for place in places {
-        let Some(tree) = trees.get(*place) else {
+        let Some(tree) = trees.get(*place as usize) else {
             anyhow::bail!("no such place");
         };
         options.push(tree.copy(alloc)?)?;
@@ -47,13 +47,13 @@ fn tree(alloc: Global, text: &str) -> anyhow::Result<Form> {
     let graph = open(alloc, &Shove, &board, 1000)?;
     let mut trees: Vec<Form> = Vec::new(alloc);
     for next in &graph.next {
-        let Some(places) = graph.places.get(next.first_place..) else {
+        let Some(places) = graph.places.get(next.first_place as usize..) else {
             anyhow::bail!("no such place");
         };
-        let Some((lefts, rest)) = places.split_at_checked(next.lefts) else {
+        let Some((lefts, rest)) = places.split_at_checked(next.lefts as usize) else {
             anyhow::bail!("no such place");
         };
-        let Some(rights) = rest.get(..next.moves.saturating_sub(next.lefts)) else {
+        let Some(rights) = rest.get(..next.moves.saturating_sub(next.lefts) as usize) else {
             anyhow::bail!("no such place");
         };
         let left = at_places(alloc, &trees, lefts)?;

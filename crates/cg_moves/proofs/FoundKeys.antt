@@ -1,9 +1,9 @@
 -- Boards that were found, with the numbers of their keys.
 use Rattle.std.proofs.Common.{◌≡◌, refl, ℕ, zero, suc, ◌<◌, inl, inr, List, [], ◌∷◌, ◌++◌, get_or, length, ap, sym, ◌∙◌, arith}
-use Rattle.std.specs.Prelude.{Err, IfNone, IfOk, IfSome, None, Ok, Option, Result, Some, map}
-use Rattle.std.proofs.lemmas.List.{length-map, map-append}
+use Rattle.std.specs.Prelude.{Err, IfOk, Ok, Result, map}
+use Rattle.std.proofs.lemmas.List.{length-append, length-map, map-append}
 use Rattle.cg_moves.specs.declared.key.BoardKey.{BoardKey}
-use Rattle.cg_moves.specs.Found.{SameSymbols, AreNumbers, HasKeyAt}
+use Rattle.cg_moves.specs.Found.{AreFew, AreNumbers, HasKeyAt, SameSymbols}
 use Rattle.cg_moves.specs.Grid.{Grid, IsGrid}
 use Rattle.cg_moves.specs.Graph.{IsAt}
 use Rattle.cg_moves.specs.Rules.{In}
@@ -83,15 +83,9 @@ grids-more boards p all g q m = elim (in-append q boards (p ∷ []) m) [
   | inr last ↦ (rw (in_one q p last) g)
 ]
 
--- ---- what a search tells
-
-pub if_some_then : {X : Type 0} (P Q : X → Type 0) (o : Option X) → IfSome o P → ((x : X) → P x → Q x) → IfSome o Q
-if_some_then P Q (Some x) p h = h x p
-if_some_then P Q None p h = tt
-
-pub if_none_then : {X : Type 0} (P Q : Type 0) (o : Option X) → IfNone o P → (P → Q) → IfNone o Q
-if_none_then P Q (Some x) p h = tt
-if_none_then P Q None p h = h p
+-- where the number of the next board fits in 32 bits
+pub few-more : (boards : List Grid) (p : Grid) (number : ℕ) → number ≡ length boards → number < 4294967296 → AreFew (boards ++ (p ∷ []))
+few-more boards p number is low = let l = length-append boards (p ∷ []) in omega (arith, l, is, low)
 
 -- a board that is put behind others has the number after theirs
 pub put-number : {E : Type 0} (old new : List Grid) (q p : Grid) → q ≡ p → (r : Result ℕ E) → IfOk r (λ _. new ≡ old ++ (q ∷ []))

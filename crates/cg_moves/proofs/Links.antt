@@ -1,5 +1,5 @@
 -- Parts by numbers, with what comes next after each.
-use Rattle.std.proofs.Common.{◌≡◌, refl, ℕ, zero, suc, ◌+◌, ◌-◌, ◌<◌, ◌≤◌, true, inl, inr, List, [], ◌∷◌, ◌++◌}
+use Rattle.std.proofs.Common.{◌≡◌, refl, ℕ, zero, suc, ◌-◌, ◌<◌, ◌≤◌, inl, inr, List, [], ◌∷◌, ◌++◌}
 use Rattle.std.proofs.Common.{length, length-append, map, get_or, take, drop, append_assoc, ap, sym, ◌∙◌, subst, arith}
 use Rattle.std.specs.Prelude.{All, IfOk, Result}
 use Rattle.std.specs.List.{flat_map}
@@ -12,7 +12,7 @@ use Rattle.cg_moves.specs.Found.{SameSymbols}
 use Rattle.cg_moves.specs.Grid.{Grid}
 use Rattle.cg_moves.specs.Graph.{IsAt, IsNext, StandAt}
 use Rattle.cg_moves.specs.Kept.{kept}
-use Rattle.cg_moves.specs.Linked.{AreLinked, AreUncut, CanLink, IsLinked, IsWider, NumberedAs}
+use Rattle.cg_moves.specs.Linked.{AreLinked, AreUncut, CanLink, IsLinked, IsWider, MayLink, NumberedAs}
 use Rattle.cg_moves.specs.Plays.{IsPlay}
 use Rattle.cg_moves.specs.Rules.{GameRules, In, boards_after, followers}
 use Rattle.cg_moves.specs.Walking.{AreFound, Walk, parts, play}
@@ -28,7 +28,6 @@ use Rattle.cg_form.proofs.Firsts.{in-append_left, in-append_right}
 use Rattle.cg_moves.proofs.PlaceLemmas.{at-append, at-in, stand-wider}
 use Rattle.cg_moves.proofs.PlayLemmas.{part-uncut, plays}
 use Rattle.cg_moves.proofs.PlayOrder.{all-each, reached-next, start-reached}
-use Rattle.cg_moves.proofs.Same.{boards}
 
 -- ---- what comes next after the first of some boards
 
@@ -130,20 +129,27 @@ module _ (w : Walk) (can : CanLink w) (found : List Grid) (nexts : List Adjacenc
   pub link-lawful : IsPlay (play w)
   link-lawful = plays w.game can.lawful w.edges can.may
 
-  pub link-uncut : (mid : List Grid) → AreFound w mid → AreUncut (parts w) mid
-  link-uncut mid y q m =
+  all-uncut : (mid : List Grid) → AreFound w mid → AreUncut (parts w) mid
+  all-uncut mid y q m =
       let (s, k, l) = in-flat_map (play w).all q w.starts (found-among w mid y q m) in
       all-each (play w) link-lawful (λ z. parts w z ≡ z ∷ []) (λ b z has own i.
       let (f, j, part) = in-flat_map (parts w) z (followers w.game b) (carry z _ _ (next-parts w.game w.edges b) i) in
       part-uncut w.game can.lawful w.edges can.may f z (follower-has w.game can.lawful.moves b f has j) part)
       (suc ((play w).measure s)) s (omega arith) (can.starts.known s k).1 (can.uncut s k) q l
 
-  pub link-same : (mid : List Grid) → AreFound w mid → SameSymbols (mid ++ (p ∷ []))
-  link-same mid y = among-same_symbols w mid y link-lawful can.starts (p ∷ [])
+  all-same : (mid : List Grid) → AreFound w mid → SameSymbols (mid ++ (p ∷ []))
+  all-same mid y = among-same_symbols w mid y link-lawful can.starts (p ∷ [])
       (λ q m. in_equal q p _ (in_one q p m) (found-among w found x.among p (at-in found (length nexts) p at)))
 
-  pub link-has : w.game.has p ≡ true
-  link-has = found-has w found x.among link-lawful can.starts p (at-in found (length nexts) p at)
+  -- what moves on the board lead to may be linked, where these are found
+  pub may-link : (mid : List Grid) → AreFound w mid → MayLink w.game w.edges mid p
+  may-link mid y = record {
+    lawful = can.lawful;
+    may = can.may;
+    has = found-has w found x.among link-lawful can.starts p (at-in found (length nexts) p at);
+    uncut = all-uncut mid y;
+    same_symbols = all-same mid y;
+  }
 
   abbrev pub lefts : List Grid
   lefts = flat_map (parts w) (boards_after w.game Left p)

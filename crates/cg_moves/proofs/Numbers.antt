@@ -62,12 +62,6 @@ module _ (numbers : List ℕ) (o later : Open) (low : o.next < o.end) (inside : 
       ∙ ap (λ z. Leaves (board_at found z) ∷ (entered (boards_at found (numbers_left numbers later)) ++ (Enters (board_at found n) ∷ [])))
       (sym same)
 
-pub visits-none : (found : List Grid) (numbers : List ℕ) (o : Open) → o.end ≤ o.next
-    → visits_by found numbers o ≡ Leaves (board_at found o.number) ∷ []
-visits-none found numbers o none =
-    let no : o.end - o.next ≡ 0 = omega (arith, none) in
-    ap (λ k. Leaves (board_at found o.number) ∷ entered (boards_at found (take k (drop o.next numbers)))) no
-
 pub visits_of-append : (found : List Grid) (numbers : List ℕ) (os : List Open) (o : Open)
     → visits_of found numbers (os ++ (o ∷ [])) ≡ visits_of found numbers os ++ visits_by found numbers o
 visits_of-append found numbers [] o = append-nil (visits_by found numbers o)
@@ -105,6 +99,3 @@ all-last P (y ∷ xs) x h = all-last P xs x (λ m e low. h (suc m) e (omega arit
 pub all-one : {X : Type 0} (P : X → Type 0) (x : X) → P x → All P (x ∷ [])
 all-one P x h zero d below = h
 all-one P x h (suc k) d below = absurd (omega arith)
-
-pub all-none : {X : Type 0} (P : X → Type 0) (xs : List X) → xs ≡ [] → All P xs
-all-none P xs e k d below = let l = ap length e in absurd (omega (arith, l, below))

@@ -1,5 +1,5 @@
 -- Boards that were found, each with a number.
-use Rattle.std.specs.Prelude.{◌≡◌, ℕ, zero, suc, List, [], ◌∷◌, map}
+use Rattle.std.specs.Prelude.{◌≡◌, ◌≤◌, ℕ, zero, suc, List, [], ◌∷◌, length, map}
 use Rattle.cg_moves.specs.declared.key.BoardKey.{BoardKey}
 use Rattle.cg_moves.specs.Grid.{Grid}
 use Rattle.cg_moves.specs.Rules.{In}
@@ -18,3 +18,7 @@ HasKeyAt (p ∷ ps) (suc n) key = HasKeyAt ps n key
 -- the numbers of the keys of the boards
 abbrev pub AreNumbers : List ℕ → List Grid → Type 0
 AreNumbers numbers boards = numbers ≡ map (λ p. key_number (key_of p)) boards
+
+-- the numbers of the boards fit in 32 bits
+abbrev pub AreFew : List Grid → Type 0
+AreFew boards = length boards ≤ 4294967296

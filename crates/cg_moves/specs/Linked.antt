@@ -1,11 +1,13 @@
 -- Parts by numbers: a part's number is its place among those that were found.
-use Rattle.std.specs.Prelude.{◌≡◌, ℕ, ◌<◌, All, List, [], ◌∷◌, ◌++◌, length}
+use Rattle.std.specs.Prelude.{◌≡◌, ℕ, ◌<◌, true, All, List, [], ◌∷◌, ◌++◌, length}
+use Rattle.cg_moves.specs.declared.edges.Edges.{Edges}
 use Rattle.cg_moves.specs.declared.graph.Adjacency.{Adjacency}
-use Rattle.cg_moves.specs.declared.linked.Linked.{Linked}
+use Rattle.cg_moves.specs.declared.linked.Linking.{Linking}
+use Rattle.cg_moves.specs.Found.{SameSymbols}
 use Rattle.cg_moves.specs.Grid.{Grid}
 use Rattle.cg_moves.specs.Graph.{IsAt, IsNext, StandAt}
 use Rattle.cg_moves.specs.Lawful.{IsLawful}
-use Rattle.cg_moves.specs.Plays.{MayGo}
+use Rattle.cg_moves.specs.Plays.{MayGo, parts_of}
 use Rattle.cg_moves.specs.Rules.{GameRules, In}
 use Rattle.cg_moves.specs.Walking.{AreFound, Walk, parts, play}
 use Rattle.cg_moves.specs.Walks.{AreStarts}
@@ -30,7 +32,7 @@ pub record IsLinked (w : Walk) (found : List Grid) (nexts : List Adjacency) (cou
   pub linked : AreLinked w.game (parts w) counts numbers found found nexts
   pub inside : All (λ n. n < length found) numbers
 
-abbrev pub IsLinking : Walk → Linked → Type 0
+abbrev pub IsLinking : Walk → Linking → Type 0
 IsLinking w s = IsLinked w s.found s.next.items s.counts.items s.numbers.items
 
 -- each of the boards is its own only part
@@ -44,3 +46,11 @@ pub record CanLink (w : Walk) : Type 0 where
   pub may : MayGo w.game w.edges
   pub starts : AreStarts (play w) w.starts
   pub uncut : AreUncut (parts w) w.starts
+
+-- the rules are lawful, and the board is one of the game, with the symbols of the parts that were found, each its own only part
+pub record MayLink (r : GameRules) (edges : Edges) (found : List Grid) (p : Grid) : Type 0 where
+  pub lawful : IsLawful r
+  pub may : MayGo r edges
+  pub has : r.has p ≡ true
+  pub uncut : AreUncut (parts_of r edges) found
+  pub same_symbols : SameSymbols (found ++ (p ∷ []))

@@ -6,7 +6,7 @@ use Rattle.cg_moves.specs.declared.walk.Open.{Open}
 use Rattle.cg_moves.specs.declared.walk.Visited.{Visited}
 use Rattle.cg_moves.specs.Grid.{Grid}
 use Rattle.cg_moves.specs.Graph.{IsAt}
-use Rattle.cg_moves.specs.Linked.{IsLinking}
+use Rattle.cg_moves.specs.Linked.{IsLinked}
 use Rattle.cg_moves.specs.Plays.{IsPlay, Play}
 use Rattle.cg_moves.specs.Rules.{In}
 use Rattle.cg_moves.specs.Walking.{IsOnWalk, Walk, play}
@@ -57,7 +57,7 @@ pub record AreRanks (found visited : List Grid) (ranks : List ℕ) : Type 0 wher
 pub record CanVisit (w : Walk) (s : Linked) : Type 0 where
   pub lawful : IsPlay (play w)
   pub starts : AreStarts (play w) w.starts
-  pub linked : IsLinking w s
+  pub linked : IsLinked w s.found s.next.items s.counts.items s.numbers.items
   pub all : length s.next.items ≡ length s.found
 
 -- what holds of a walk by numbers

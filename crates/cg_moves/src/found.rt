@@ -7,7 +7,8 @@ ghost use Rattle.cg_moves.specs.Grid.{IsGrid};
 ghost use Rattle.cg_moves.specs.Keys.{key_number, key_of};
 ghost use Rattle.cg_moves.specs.Rules.{In};
 
-use crate::{Board, BoardKey};
+use crate::pushing::narrowed;
+use crate::{Board, BoardKey, Boards};
 use cg_hash_index::HashIndex;
 use std::alloc::{AllocError, Global};
 use std::marker::Model;
@@ -34,7 +35,7 @@ pub(crate) struct Found {
 impl Model for Found {
     ghost use Rattle.std.specs.Prelude.{List};
     ghost use Rattle.std.specs.Coded.{coded_list};
-    ghost use Rattle.cg_moves.specs.Found.{AreNumbers};
+    ghost use Rattle.cg_moves.specs.Found.{AreFew, AreNumbers};
     ghost use Rattle.cg_moves.specs.Grid.{Grid};
     ghost use Rattle.cg_moves.specs.GridCode.{grid_code};
     ghost use Rattle.cg_moves.specs.Keys.{AreGrids};
@@ -45,7 +46,7 @@ impl Model for Found {
 
     ghost view = { λ s. s.boards.items };
 
-    ghost invariant = { λ s. AreNumbers s.by_number s.boards.items × AreGrids s.boards.items };
+    ghost invariant = { λ s. AreNumbers s.by_number s.boards.items × AreGrids s.boards.items × AreFew s.boards.items };
 }
 
 impl Found {
@@ -74,9 +75,20 @@ impl Found {
         &self.boards[number]
     }
 
+    /// The boards, in the order in which they were found, without what they are looked for by.
+    pub(crate) fn into_boards(self) -> Boards
+        ensures { result ≡ self }
+    {
+        let Found {
+            boards,
+            by_number: _,
+        } = self;
+        Boards::of(boards)
+    }
+
     /// The number of the board whose key has this number, if it was found. All have the same symbols.
     #[inline(always)]
-    fn known(&self, board: &Board, key_hash: u32) -> Option<usize>
+    fn known(&self, board: &Board, key_hash: u32) -> Option<u32>
         requires same_symbols { SameSymbols (self.now ++ (board.now ∷ [])) }
         requires hash { key_hash ≡ key_number (key_of board.now) }
         ensures number { IfSome result (λ number. IsAt self.now number board.now) }
@@ -84,12 +96,17 @@ impl Found {
     {
         let key = board.key();
         let boards = self.boards.as_slice();
-        self.by_number
-            .find(key_hash, |number| has_key(boards, number, &key))
+        let found = self
+            .by_number
+            .find(key_hash, |number| has_key(boards, number, &key));
+        match found {
+            Some(number) => Some(number as u32),
+            None => None,
+        }
     }
 
     /// The number of the board, if it was found. All have the same symbols.
-    pub(crate) fn find(&self, board: &Board) -> Option<usize>
+    pub(crate) fn find(&self, board: &Board) -> Option<u32>
         requires { SameSymbols (self.now ++ (board.now ∷ [])) }
         ensures { IfSome result (λ number. IsAt self.now number board.now) }
     {
@@ -98,14 +115,14 @@ impl Found {
 
     /// Puts a new board, whose key has this number, behind the others, and gives its number. All have the same symbols.
     #[inline(never)]
-    fn put(&mut self, board: Board, key_hash: u32) -> Result<usize, AllocError>
+    fn put(&mut self, board: Board, key_hash: u32) -> Result<u32, AllocError>
         requires same_symbols { SameSymbols (self.old ++ (board ∷ [])) }
         requires grid { IsGrid board }
         requires hash { key_hash ≡ key_number (key_of board) }
         ensures boards { IfOk result (λ _. self.new ≡ self.old ++ (board ∷ [])) }
         ensures number { IfOk result (λ number. number ≡ length self.old) }
     {
-        let number = self.boards.len();
+        let number = narrowed(self.boards.len())?;
         self.boards.reserve(1)?;
         self.by_number.add(key_hash)?;
         self.boards.push(board)?;
@@ -114,7 +131,7 @@ impl Found {
 
     /// The number of the board, which is put behind the others, unless it was found. All have the same symbols.
     #[inline(always)]
-    pub(crate) fn number_of(&mut self, alloc: Global, board: &Board) -> Result<usize, AllocError>
+    pub(crate) fn number_of(&mut self, alloc: Global, board: &Board) -> Result<u32, AllocError>
         requires { SameSymbols (self.old ++ (board.now ∷ [])) }
         ensures boards { IfOk result (λ _. self.new ≡ one_more self.old board.now) }
         ensures number { IfOk result (λ number. IsAt self.new number board.now) }

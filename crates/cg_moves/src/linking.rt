@@ -1,52 +1,21 @@
 //! Parts by numbers: what play can come to, found in breadth, and what comes next after each part, listed once.
-ghost use Rattle.std.specs.Prelude.{◌≡◌, ◌+◌, ◌<◌, ◌≤◌, ◌∷◌, ◌++◌, [], true, IfOk, List, OnOk, length, map, take, Err};
+ghost use Rattle.std.specs.Prelude.{◌≡◌, ◌+◌, ◌<◌, ◌≤◌, ◌∷◌, ◌++◌, [], true, IfOk, List, OnOk, length, map, Err};
 ghost use Rattle.std.specs.List.{flat_map};
-ghost use Rattle.cg_moves.specs.Found.{SameSymbols};
-ghost use Rattle.cg_moves.specs.Grid.{AreAlike, Grid};
+ghost use Rattle.cg_moves.specs.Grid.{Grid};
 ghost use Rattle.cg_moves.specs.Kept.{kept};
-ghost use Rattle.cg_moves.specs.Lawful.{ArePieces, IsLawful};
-ghost use Rattle.cg_moves.specs.Linked.{AreUncut, CanLink, IsLinking, IsWider, NumberedAs};
-ghost use Rattle.cg_moves.specs.Plays.{MayGo, parts_of};
-ghost use Rattle.cg_moves.specs.Rules.{In, boards_after, cuts, pieces};
+ghost use Rattle.cg_moves.specs.Linked.{CanLink, IsLinking, IsWider, MayLink, NumberedAs};
+ghost use Rattle.cg_moves.specs.Plays.{parts_of};
+ghost use Rattle.cg_moves.specs.Rules.{boards_after};
 ghost use Rattle.cg_moves.specs.Visiting.{CanVisit};
 ghost use Rattle.cg_moves.specs.Walking.{reached, walk_of};
 
 use crate::edges::Edges;
 use crate::found::Found;
-use crate::linked::Linked;
-use crate::pushing::push;
+use crate::linked::{Linked, Linking};
+use crate::numbering::{count_ones, number_all, number_pieces};
+use crate::pushing::{narrowed, push};
 use crate::{Adjacency, Board, Player, ReachFault, Rules};
 use std::alloc::{AllocError, Global};
-
-/// Puts the numbers of the boards behind the others.
-fn number_all(
-    alloc: Global,
-    found: &mut Found,
-    boards: &[Board],
-    numbers: &mut Vec<usize>,
-) -> Result<(), AllocError>
-    requires { SameSymbols (found.old ++ boards.now) }
-    ensures found { IfOk result (λ _. found.new ≡ kept found.old boards.now) }
-    ensures numbers { IfOk result (λ _. NumberedAs found.new numbers.old.items numbers.new.items boards.now) }
-{
-    for board in boards {
-        let number = found.number_of(alloc, board)?;
-        push(numbers, number)?;
-    }
-    Ok(())
-}
-
-/// Puts 1 behind the counts for each of the boards.
-fn count_ones(boards: &[Board], counts: &mut Vec<usize>) -> Result<(), AllocError>
-    ensures { IfOk result (λ _. counts.new.items ≡ counts.old.items ++ map (λ _. 1) boards.now) }
-{
-    for board in boards {
-        // Read for the loop alone: each counts as one.
-        let _ = board;
-        push(counts, 1)?;
-    }
-    Ok(())
-}
 
 /// Room for the boards that moves lead to from a part, and for the pieces of one of them. What comes next after another
 /// part is put into the same room.
@@ -54,98 +23,6 @@ fn count_ones(boards: &[Board], counts: &mut Vec<usize>) -> Result<(), AllocErro
 struct Room {
     moved: Vec<Board>,
     pieces: Vec<Board>,
-}
-
-/// Where a player has so many moves, the boards that they lead to are looked for before they are cut: one that was
-/// found is its own only piece.
-const MANY_MOVES: usize = 24;
-
-/// Numbers the pieces of the board, and puts how many it has behind the counts. A board that was found isn't cut.
-#[inline(always)]
-fn number_cut<R: Rules>(
-    alloc: Global,
-    rules: &R,
-    board: &Board,
-    own: &mut Vec<Board>,
-    linked: &mut Linked,
-) -> Result<(), AllocError>
-    requires each { ArePieces (R.game rules.now) }
-    requires cuts { cuts (R.game rules.now) ≡ true }
-    requires has { (R.game rules.now).has board.now ≡ true }
-    requires uncut { AreUncut (pieces (R.game rules.now)) linked.old.found }
-    requires same_symbols { SameSymbols (linked.old.found ++ (board.now ∷ [])) }
-    ensures next { linked.new.next ≡ linked.old.next }
-    ensures found { IfOk result
-        (λ _. linked.new.found ≡ kept linked.old.found (pieces (R.game rules.now) board.now)) }
-    ensures numbers { IfOk result (λ _. NumberedAs linked.new.found linked.old.numbers.items linked.new.numbers.items
-        (pieces (R.game rules.now) board.now)) }
-    ensures counts { IfOk result (λ _. linked.new.counts.items
-        ≡ linked.old.counts.items ++ (length (pieces (R.game rules.now) board.now) ∷ [])) }
-{
-    if let Some(number) = linked.found.find(board) {
-        push(&mut linked.counts, 1)?;
-        return push(&mut linked.numbers, number);
-    }
-    rules.pieces_into(alloc, board, own)?;
-    push(&mut linked.counts, own.len())?;
-    number_all(alloc, &mut linked.found, own, &mut linked.numbers)
-}
-
-/// Numbers the pieces of the boards, and puts how many each board has behind the counts. Each is looked for before it
-/// is cut.
-fn number_each<R: Rules>(
-    alloc: Global,
-    rules: &R,
-    boards: &[Board],
-    own: &mut Vec<Board>,
-    linked: &mut Linked,
-) -> Result<(), AllocError>
-    requires each { ArePieces (R.game rules.now) }
-    requires cuts { cuts (R.game rules.now) ≡ true }
-    requires has { (q : Grid) → In q boards.now → (R.game rules.now).has q ≡ true }
-    requires uncut { AreUncut (pieces (R.game rules.now)) linked.old.found }
-    requires same_symbols { SameSymbols (linked.old.found ++ boards.now) }
-    ensures next { linked.new.next ≡ linked.old.next }
-    ensures found { IfOk result
-        (λ _. linked.new.found ≡ kept linked.old.found (flat_map (pieces (R.game rules.now)) boards.now)) }
-    ensures numbers { IfOk result (λ _. NumberedAs linked.new.found linked.old.numbers.items linked.new.numbers.items
-        (flat_map (pieces (R.game rules.now)) boards.now)) }
-    ensures counts { IfOk result (λ _. linked.new.counts.items
-        ≡ linked.old.counts.items ++ map (λ q. length (pieces (R.game rules.now) q)) boards.now) }
-{
-    for board in boards {
-        number_cut(alloc, rules, board, own, linked)?;
-    }
-    Ok(())
-}
-
-/// Numbers the pieces of the boards, and puts how many each board has behind the counts.
-fn number_pieces<R: Rules>(
-    alloc: Global,
-    rules: &R,
-    boards: &[Board],
-    room: &mut Vec<Board>,
-    linked: &mut Linked,
-) -> Result<(), AllocError>
-    requires each { ArePieces (R.game rules.now) }
-    requires cuts { cuts (R.game rules.now) ≡ true }
-    requires has { (q : Grid) → In q boards.now → (R.game rules.now).has q ≡ true }
-    requires alike { AreAlike boards.now }
-    requires uncut { AreUncut (pieces (R.game rules.now)) linked.old.found }
-    requires same_symbols { SameSymbols (linked.old.found ++ boards.now) }
-    ensures next { linked.new.next ≡ linked.old.next }
-    ensures found { IfOk result
-        (λ _. linked.new.found ≡ kept linked.old.found (flat_map (pieces (R.game rules.now)) boards.now)) }
-    ensures numbers { IfOk result (λ _. NumberedAs linked.new.found linked.old.numbers.items linked.new.numbers.items
-        (flat_map (pieces (R.game rules.now)) boards.now)) }
-    ensures counts { IfOk result (λ _. linked.new.counts.items
-        ≡ linked.old.counts.items ++ map (λ q. length (pieces (R.game rules.now) q)) boards.now) }
-{
-    if boards.len() >= MANY_MOVES {
-        return number_each(alloc, rules, boards, room, linked);
-    }
-    rules.pieces_of_all_into(alloc, boards, room, &mut linked.counts)?;
-    number_all(alloc, &mut linked.found, room, &mut linked.numbers)
 }
 
 /// Numbers the parts of the boards that the player's moves lead to, and counts them, board by board.
@@ -157,13 +34,9 @@ fn link_player<R: Rules>(
     board: &Board,
     player: Player,
     room: &mut Room,
-    linked: &mut Linked,
+    linked: &mut Linking,
 ) -> Result<(), AllocError>
-    requires lawful { IsLawful (R.game rules.now) }
-    requires may { MayGo (R.game rules.now) edges }
-    requires has { (R.game rules.now).has board.now ≡ true }
-    requires uncut { AreUncut (parts_of (R.game rules.now) edges) linked.old.found }
-    requires same_symbols { SameSymbols (linked.old.found ++ (board.now ∷ [])) }
+    requires { MayLink (R.game rules.now) edges linked.old.found board.now }
     ensures next { linked.new.next ≡ linked.old.next }
     ensures found { IfOk result (λ _. linked.new.found ≡ kept linked.old.found
         (flat_map (parts_of (R.game rules.now) edges) (boards_after (R.game rules.now) player board.now))) }
@@ -188,7 +61,7 @@ fn link<R: Rules>(
     rules: &R,
     edges: Edges,
     room: &mut Room,
-    linked: &mut Linked,
+    linked: &mut Linking,
 ) -> Result<(), AllocError>
     ghost starts: { List Grid }
     requires can { CanLink (walk_of (R.game rules.now) edges starts) }
@@ -199,13 +72,13 @@ fn link<R: Rules>(
     ensures one { IfOk result (λ _. length linked.new.next.items ≡ length linked.old.next.items + 1) }
 {
     let board = linked.found.board(linked.next.len()).copy(alloc)?;
-    let first_count = linked.counts.len();
-    let first_place = linked.numbers.len();
+    let first_count = narrowed(linked.counts.len())?;
+    let first_place = narrowed(linked.numbers.len())?;
     link_player(alloc, rules, edges, &board, Player::Left, room, linked)?;
-    let first_right = linked.counts.len();
+    let first_right = narrowed(linked.counts.len())?;
     link_player(alloc, rules, edges, &board, Player::Right, room, linked)?;
-    let end_count = linked.counts.len();
-    let end_place = linked.numbers.len();
+    let end_count = narrowed(linked.counts.len())?;
+    let end_place = narrowed(linked.numbers.len())?;
     let next = Adjacency {
         lefts: first_right - first_count,
         first_count,
@@ -217,7 +90,7 @@ fn link<R: Rules>(
 }
 
 /// Refuses more parts than the limit.
-fn check(linked: &Linked, limit: u64) -> Result<(), ReachFault>
+fn check(linked: &Linking, limit: u64) -> Result<(), ReachFault>
     ensures within { OnOk result (length linked.now.found ≤ limit) }
     ensures refused { result ≡ Err ReachFault.Positions → limit < length linked.now.found }
 {
@@ -233,7 +106,7 @@ fn link_all<R: Rules>(
     alloc: Global,
     rules: &R,
     edges: Edges,
-    linked: &mut Linked,
+    linked: &mut Linking,
     limit: u64,
 ) -> Result<(), ReachFault>
     ghost starts: { List Grid }
@@ -266,7 +139,7 @@ pub(crate) fn linked_from<R: Rules>(
     edges: Edges,
     starts: &[Board],
     limit: u64,
-    numbers: &mut Vec<usize>,
+    numbers: &mut Vec<u32>,
 ) -> Result<Linked, ReachFault>
     ghost from: { List Grid }
     requires from { starts.now ≡ from }
@@ -277,7 +150,7 @@ pub(crate) fn linked_from<R: Rules>(
     ensures refused { result ≡ Err ReachFault.Positions
         → limit < length (reached (walk_of (R.game rules.now) edges from)) }
 {
-    let mut linked = Linked {
+    let mut linked = Linking {
         found: Found::new(alloc),
         next: Vec::new(alloc),
         counts: Vec::new(alloc),
@@ -285,5 +158,5 @@ pub(crate) fn linked_from<R: Rules>(
     };
     number_all(alloc, &mut linked.found, starts, numbers)?;
     link_all(alloc, rules, edges, &mut linked, limit)?;
-    Ok(linked)
+    Ok(linked.linked())
 }

@@ -6,7 +6,7 @@ ghost use Rattle.cg_moves.specs.Grid.{AreAlike, Grid};
 ghost use Rattle.cg_moves.specs.Lawful.{IsLawful};
 ghost use Rattle.cg_moves.specs.Rules.{GameRules, In, boards_after, cuts, pieces};
 
-use crate::pushing::push;
+use crate::pushing::{push, push_count};
 use crate::{Board, Boards, Pieces, Player};
 use std::alloc::{AllocError, Global};
 
@@ -85,7 +85,7 @@ pub trait Rules {
         alloc: Global,
         boards: &[Board],
         room: &mut Vec<Board>,
-        counts: &mut Vec<usize>,
+        counts: &mut Vec<u32>,
     ) -> Result<(), AllocError>
         requires has { (q : Grid) → In q boards.now → (game self.now).has q ≡ true }
         requires alike { AreAlike boards.now }
@@ -98,7 +98,7 @@ pub trait Rules {
         room.clear();
         for board in boards {
             self.pieces_into(alloc, board, &mut own)?;
-            push(counts, own.len())?;
+            push_count(counts, own.len())?;
             append(alloc, &own, room)?;
         }
         Ok(())

@@ -10,7 +10,7 @@ ghost use Rattle.cg_moves.specs.Walks.{Enters, Leaves, Visit, entered};
 use crate::edges::Edges;
 use crate::linked::Linked;
 use crate::linking::linked_from;
-use crate::pushing::push;
+use crate::pushing::{narrowed, push};
 use crate::{Adjacency, Board, Boards, PositionGraph, ReachFault, Rules};
 use std::alloc::{AllocError, Global};
 
@@ -19,9 +19,9 @@ use std::alloc::{AllocError, Global};
 pub(crate) struct Visited {
     pub(crate) boards: Vec<Board>,
     pub(crate) next: Vec<Adjacency>,
-    pub(crate) places: Vec<usize>,
+    pub(crate) places: Vec<u32>,
     /// For each part, by its number, how many were visited up to it, and with it; 0 where it wasn't.
-    pub(crate) ranks: Vec<usize>,
+    pub(crate) ranks: Vec<u32>,
 }
 
 /// A part that was entered: its number, and where the numbers stand of the parts that come next after it and are left
@@ -46,21 +46,21 @@ fn opened(linked: &Linked, number: usize) -> Open
     let next = linked.next[number];
     Open {
         number,
-        next: next.first_place,
-        end: next.first_place + next.parts,
+        next: next.first_place as usize,
+        end: next.first_place as usize + next.parts as usize,
     }
 }
 
 /// Puts the places of the parts with these numbers, which were visited, behind the places.
 #[inline(always)]
-fn put_places(ranks: &[usize], numbers: &[usize], places: &mut Vec<usize>) -> Result<(), AllocError>
+fn put_places(ranks: &[u32], numbers: &[u32], places: &mut Vec<u32>) -> Result<(), AllocError>
     requires inside { All (λ n. n < length ranks.now) numbers.now }
     requires visited { All (λ n. 0 < get_or ranks.now n 0) numbers.now }
     ensures { IfOk result
         (λ _. places.new.items ≡ places.old.items ++ map (λ n. get_or ranks.now n 0 - 1) numbers.now) }
 {
     for number in numbers {
-        push(places, ranks[*number] - 1)?;
+        push(places, ranks[*number as usize] - 1)?;
     }
     Ok(())
 }
@@ -82,7 +82,7 @@ fn next_unvisited(linked: &Linked, visited: &Visited, top: &mut Open) -> Option<
         → IsVisiting walk linked.now visited.now (below ++ (Leaves (board_at linked.now.found top.old.number) ∷ []))) }
 {
     while top.next < top.end {
-        let number = linked.numbers[top.next];
+        let number = linked.numbers[top.next] as usize;
         top.next += 1;
         if visited.ranks[number] == 0 {
             return Some(number);
@@ -109,7 +109,7 @@ fn leave(
         → IsVisiting walk linked.now visited.new below) }
 {
     let next = linked.next[number];
-    let first_place = visited.places.len();
+    let first_place = narrowed(visited.places.len())?;
     put_places(&visited.ranks, linked.numbers_of(next), &mut visited.places)?;
     push(
         &mut visited.next,
@@ -118,8 +118,9 @@ fn leave(
             ..next
         },
     )?;
-    push(&mut visited.boards, linked.found.board(number).copy(alloc)?)?;
-    visited.ranks[number] = visited.boards.len();
+    push(&mut visited.boards, linked.part(number).copy(alloc)?)?;
+    let rank = narrowed(visited.boards.len())?;
+    visited.ranks[number] = rank;
     Ok(())
 }
 
@@ -159,7 +160,7 @@ fn visit(
 }
 
 /// Visits all parts that come after the starts, and the starts.
-fn visit_all(alloc: Global, linked: &Linked, starts: &[usize]) -> Result<Visited, AllocError>
+fn visit_all(alloc: Global, linked: &Linked, starts: &[u32]) -> Result<Visited, AllocError>
     ghost walk: { Walk }
     requires can { CanVisit walk linked.now }
     requires starts { StandAt linked.now.found starts.now walk.starts }
@@ -173,7 +174,7 @@ fn visit_all(alloc: Global, linked: &Linked, starts: &[usize]) -> Result<Visited
     };
     let mut entered = Vec::new(alloc);
     for start in starts {
-        visit(alloc, linked, &mut visited, &mut entered, *start)?;
+        visit(alloc, linked, &mut visited, &mut entered, *start as usize)?;
     }
     Ok(visited)
 }

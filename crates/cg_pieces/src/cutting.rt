@@ -12,7 +12,7 @@ ghost use Rattle.cg_pieces.specs.Words.{IsTaken};
 use crate::NeighbourRules;
 use crate::field::field_of;
 use crate::frame::crop;
-use cg_moves::{Board, Boards, push};
+use cg_moves::{Board, Boards, push, push_count};
 use std::alloc::{AllocError, Global};
 
 /// Appends the piece of this set, if some player has a move in it.
@@ -87,7 +87,7 @@ pub fn pieces_of_all_into<N: NeighbourRules>(
     rules: &N,
     boards: &[Board],
     room: &mut Vec<Board>,
-    counts: &mut Vec<usize>,
+    counts: &mut Vec<u32>,
 ) -> Result<(), AllocError>
     requires symbols { (q : Grid) → In q boards.now → q.symbols ≡ (N.neighbours rules.now).symbols }
     requires alike { AreAlike boards.now }
@@ -106,7 +106,7 @@ pub fn pieces_of_all_into<N: NeighbourRules>(
         let _size = board.size();
         let before = room.len();
         append_pieces(rules, board, first_column, room)?;
-        push(counts, room.len() - before)?;
+        push_count(counts, room.len() - before)?;
     }
     Ok(())
 }

@@ -22,7 +22,7 @@ fn add_all<B: BoardForms, S: CellStore<GameFacts<B>>, A: Adder>(
     adder: &A,
     first: Handle,
     handles: &[Handle],
-    others: &[usize],
+    others: &[u32],
 ) -> Result<Handle, ValueFault>
     requires first { IsGame (work_state S.state work.old) first }
     requires within { AreBelow (length handles.now) others.now }
@@ -34,7 +34,7 @@ fn add_all<B: BoardForms, S: CellStore<GameFacts<B>>, A: Adder>(
 {
     let mut sum = first;
     for place in others {
-        sum = adder.add(alloc, work, sum, handles[*place])?;
+        sum = adder.add(alloc, work, sum, handles[*place as usize])?;
     }
     Ok(sum)
 }
@@ -47,7 +47,7 @@ pub(crate) fn joined<B: BoardForms, S: CellStore<GameFacts<B>>, A: Adder>(
     work: &mut Work<B, S>,
     adder: &A,
     handles: &[Handle],
-    places: &[usize],
+    places: &[u32],
 ) -> Result<Handle, ValueFault>
     requires within { AreBelow (length handles.now) places.now }
     requires games { AreGames (work_state S.state work.old) (handles_at handles.now places.now) }
@@ -56,7 +56,7 @@ pub(crate) fn joined<B: BoardForms, S: CellStore<GameFacts<B>>, A: Adder>(
         result }
 {
     match places.split_first() {
-        Some((first, others)) => add_all(alloc, work, adder, handles[*first], handles, others),
+        Some((first, others)) => add_all(alloc, work, adder, handles[*first as usize], handles, others),
         None => canonical(alloc, work, &[], &[], 0),
     }
 }

@@ -30,8 +30,8 @@ use std::alloc::Global;
 struct Part<'a> {
     board: &'a Board,
     lefts: usize,
-    counts: &'a [usize],
-    places: &'a [usize],
+    counts: &'a [u32],
+    places: &'a [u32],
     handles: &'a [Handle],
 }
 
@@ -64,7 +64,7 @@ fn part_value<B: BoardForms, S: CellStore<GameFacts<B>>, R: Rules, A: Adder>(
     let mut places = part.places;
     let mut options = SmallVec::with_capacity(alloc, part.counts.len())?;
     for count in part.counts {
-        let (own, others) = places.split_at(*count);
+        let (own, others) = places.split_at(*count as usize);
         let option = joined(alloc, work, adder, part.handles, own)?;
         options.push_reserved(option);
         places = others;
@@ -106,7 +106,7 @@ pub(crate) fn part_values<B: BoardForms, S: CellStore<GameFacts<B>>, R: Rules, A
         let next = graph.next[place];
         let part = Part {
             board,
-            lefts: next.lefts,
+            lefts: next.lefts as usize,
             counts: graph.counts_of(next),
             places: graph.places_of(next),
             handles: &handles,

@@ -8,7 +8,7 @@ use Rattle.cg_moves.specs.Rules.{boards_after}
 use Rattle.cg_moves.specs.Walking.{walk_of}
 use Rattle.cg_moves.proofs.Broad.{found-kept}
 use Rattle.cg_moves.proofs.Carried.{ok_any, ok_is}
-use Rattle.cg_moves.proofs.Links.{lefts-among, link-has, link-same, link-uncut, linking-done, number-at, wider-twice}
+use Rattle.cg_moves.proofs.Links.{lefts-among, linking-done, may-link, number-at, wider-twice}
 use Rattle.cg_moves.proofs.linking.link.Goals as goal
 
 pub link_player-requires : goal.link_player-requires
@@ -20,14 +20,7 @@ link_player-requires g c =
     let n : c.len.result ≡ length s.next.items = omega arith in
     let at = number-at s.found s.next.items c.len.result p c.board.result.now n (ok_is p c.board.result.now c.in_ok-board.ensures)
     c.board.ensures in
-    let can = c.requires.1.0 in
-    record {
-      lawful = can.lawful;
-      may = can.may;
-      has = link-has w can s.found s.next.items s.counts.items s.numbers.items x p at;
-      uncut = link-uncut w can s.found s.next.items s.counts.items s.numbers.items x p at s.found x.among;
-      same_symbols = link-same w can s.found s.next.items s.counts.items s.numbers.items x p at s.found x.among;
-    }
+    may-link w c.requires.1.0 s.found s.next.items s.counts.items s.numbers.items x p at s.found x.among
 
 pub link_player-requires-2 : goal.link_player-requires-2
 link_player-requires-2 g c =
@@ -38,17 +31,9 @@ link_player-requires-2 g c =
     let n : c.len.result ≡ length s.next.items = omega arith in
     let at = number-at s.found s.next.items c.len.result p c.board.result.now n (ok_is p c.board.result.now c.in_ok-board.ensures)
     c.board.ensures in
-    let can = c.requires.1.0 in
     let mid = c.link_player.new.linked.found in
-    let among = found-kept w s.found x.among _ mid c.in_ok-link_player.ensures.found (lefts-among w can s.found s.next.items
-    s.counts.items s.numbers.items x p at) in
-    record {
-      lawful = can.lawful;
-      may = can.may;
-      has = link-has w can s.found s.next.items s.counts.items s.numbers.items x p at;
-      uncut = link-uncut w can s.found s.next.items s.counts.items s.numbers.items x p at mid among;
-      same_symbols = link-same w can s.found s.next.items s.counts.items s.numbers.items x p at mid among;
-    }
+    may-link w c.requires.1.0 s.found s.next.items s.counts.items s.numbers.items x p at mid (found-kept w s.found x.among _ mid
+    c.in_ok-link_player.ensures.found (lefts-among w c.requires.1.0 s.found s.next.items s.counts.items s.numbers.items x p at))
 
 pub returns-clause-linking : goal.returns-clause-linking
 returns-clause-linking g c =
@@ -63,17 +48,17 @@ returns-clause-linking g c =
     let two = c.in_ok-link_player-2.ensures in
     let mid = c.link_player.new.linked in
     let end = c.link_player-2.new.linked in
-    let a : c.len-first_count.result ≡ length s.counts.items = omega arith in
-    let b : c.len-first_place.result ≡ length s.numbers.items = omega arith in
-    let d : c.len-first_right.result ≡ length mid.counts.items = omega arith in
-    let e : c.len-end_count.result ≡ length end.counts.items = omega arith in
-    let f : c.len-end_place.result ≡ length end.numbers.items = omega arith in
+    let a : c.in_ok-first_count.first_count ≡ length s.counts.items = omega arith in
+    let b : c.in_ok-first_place.first_place ≡ length s.numbers.items = omega arith in
+    let d : c.in_ok-first_right.first_right ≡ length mid.counts.items = omega arith in
+    let e : c.in_ok-end_count.end_count ≡ length end.counts.items = omega arith in
+    let f : c.in_ok-end_place.end_place ≡ length end.numbers.items = omega arith in
     let next : Adjacency = record {
-      lefts = c.len-first_right.result - c.len-first_count.result;
-      first_count = c.len-first_count.result;
-      moves = c.len-end_count.result - c.len-first_count.result;
-      first_place = c.len-first_place.result;
-      parts = c.len-end_place.result - c.len-first_place.result;
+      lefts = c.in_ok-first_right.first_right - c.in_ok-first_count.first_count;
+      first_count = c.in_ok-first_count.first_count;
+      moves = c.in_ok-end_count.end_count - c.in_ok-first_count.first_count;
+      first_place = c.in_ok-first_place.first_place;
+      parts = c.in_ok-end_place.end_place - c.in_ok-first_place.first_place;
     } in
     linking-done w c.requires.1.0 s.found s.next.items s.counts.items s.numbers.items x p at mid.found end.found mid.numbers.items
     end.numbers.items mid.counts.items end.counts.items next one.found two.found one.numbers two.numbers one.counts two.counts

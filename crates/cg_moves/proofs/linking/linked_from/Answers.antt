@@ -1,4 +1,4 @@
-use Rattle.std.proofs.Common.{arith}
+use Rattle.std.proofs.Common.{◌∙◌, ap, arith, length, sym}
 use Rattle.cg_moves.specs.Walking.{walk_of}
 use Rattle.cg_moves.proofs.AllFound.{all-within}
 use Rattle.cg_moves.proofs.Links.{linked-none, stand-in, starts-found}
@@ -22,8 +22,9 @@ pub returns-clause-can : goal.returns-clause-can
 returns-clause-can g c = record {
   lawful = plays (g.R.Rules.game c.args.rules.now) c.requires.1.1.lawful c.args.edges c.requires.1.1.may;
   starts = c.requires.1.1.starts;
-  linked = c.in_ok-link_all.ensures.linking;
-  all = c.in_ok-link_all.ensures.all;
+  linked = rw (c.linked.ensures.found, c.linked.ensures.next, c.linked.ensures.counts, c.linked.ensures.numbers)
+      c.in_ok-link_all.ensures.linking;
+  all = ap length c.linked.ensures.next ∙ c.in_ok-link_all.ensures.all ∙ sym (ap length c.linked.ensures.found);
 }
 
 pub returns-clause-numbers : goal.returns-clause-numbers
@@ -31,8 +32,8 @@ returns-clause-numbers g c =
     let (more, e, stand) = c.in_ok-number_all.ensures.numbers in (
       more,
       e,
-      stand-wider c.number_all.new.found c.link_all.new.linked.found c.in_ok-link_all.ensures.wider more g.from
-          (rw (← c.requires.1.0) stand),
+      rw c.linked.ensures.found (stand-wider c.number_all.new.found c.link_all.new.linked.found
+          c.in_ok-link_all.ensures.wider more g.from (rw (← c.requires.1.0) stand)),
     )
 
 pub returns-clause-within : goal.returns-clause-within

@@ -28,11 +28,11 @@ returns g c below x =
     let s = c.args.linked.now in
     let v = c.args.visited.now in
     let n = c.args.number in
-    let same = ok_is c.in_ok-copy.field-0 c.board.result.now c.in_ok-copy.ensures
-    ∙ sym (at-board s.found n c.board.result.now c.board.ensures) in
+    let same = ok_is c.in_ok-copy.field-0 c.part.result.now c.in_ok-copy.ensures
+    ∙ sym (at-board s.found n c.part.result.now c.part.ensures) in
     left g.walk s c.requires.0 v.boards.items v.next.items v.places.items v.ranks.items below n c.requires.1.0 x
     c.index-next.result.now c.index-next.ensures c.push-2.new.items.items c.push.new.items.items c.put_places.new.places.items
-    (set v.ranks.items n c.len.result) c.numbers_of.result.now c.len-first_place.result c.len.result
+    (set v.ranks.items n c.in_ok-rank.rank) c.numbers_of.result.now c.in_ok-first_place.first_place c.in_ok-rank.rank
     (c.in_ok-push-2.ensures ∙ ap (λ z. v.boards.items ++ (z ∷ [])) same) (omega arith) c.numbers_of.ensures
     (c.in_ok-put_places.ensures ∙ ap (λ z. v.places.items ++ map (λ m. get_or z m 0 - 1) c.numbers_of.result.now) c.deref.ensures.value)
     c.in_ok-push.ensures (omega arith) refl

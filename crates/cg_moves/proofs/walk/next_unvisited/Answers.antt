@@ -13,12 +13,12 @@ returns-then-index-eq0-clause-next g c below x =
     let inside = c.loop-top.invariant.inside in
     let end = inside.end in
     let later : Open = record { number = o.number; next = o.next + 1; end = o.end } in
-    let n = c.index-number.result.now in
-    let is : n ≡ get_or s.numbers.items o.next 0 = get_or_read s.numbers.items _ _ (omega (arith, low, end)) c.index-number.ensures 0 in
+    let n = c.index.result.now in
+    let is : n ≡ get_or s.numbers.items o.next 0 = get_or_read s.numbers.items _ _ (omega (arith, low, end)) c.index.ensures 0 in
     let many = number-inside g.walk s c.requires.0 v o later low inside refl refl refl n is in
     let size = c.requires.1.1 in
-    let rank : c.index.result.now ≡ get_or v.ranks.items n 0 =
-    get_or_read v.ranks.items _ _ (omega (arith, many, size)) c.index.ensures 0 in
+    let rank : c.index-in-loop-top.result.now ≡ get_or v.ranks.items n 0 =
+    get_or_read v.ranks.items _ _ (omega (arith, many, size)) c.index-in-loop-top.ensures 0 in
     stepped g.walk s c.requires.0 v o later low inside refl refl refl n is c.args.top.now below (c.loop-top.invariant.visiting below x)
     (sym rank ∙ c.if-index-eq0.true) c.loop-top.invariant.less
 
@@ -31,12 +31,12 @@ loop-top-preserved g c =
     let inside = c.loop-top.invariant.inside in
     let end = inside.end in
     let later : Open = record { number = o.number; next = o.next + 1; end = o.end } in
-    let n = c.index-number.result.now in
-    let is : n ≡ get_or s.numbers.items o.next 0 = get_or_read s.numbers.items _ _ (omega (arith, low, end)) c.index-number.ensures 0 in
+    let n = c.index.result.now in
+    let is : n ≡ get_or s.numbers.items o.next 0 = get_or_read s.numbers.items _ _ (omega (arith, low, end)) c.index.ensures 0 in
     let many = number-inside g.walk s c.requires.0 v o later low inside refl refl refl n is in
     let size = c.requires.1.1 in
-    let rank : c.index.result.now ≡ get_or v.ranks.items n 0 =
-    get_or_read v.ranks.items _ _ (omega (arith, many, size)) c.index.ensures 0 in
+    let rank : c.index-in-loop-top.result.now ≡ get_or v.ranks.items n 0 =
+    get_or_read v.ranks.items _ _ (omega (arith, many, size)) c.index-in-loop-top.ensures 0 in
     let other = c.if-index-eq0.false in
     let some : 0 < get_or v.ranks.items n 0 = omega (arith, rank, other) in
     record {

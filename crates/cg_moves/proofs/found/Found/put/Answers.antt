@@ -1,5 +1,5 @@
 use Rattle.std.proofs.Common.{[], ◌∷◌, ◌++◌, ap, ◌∙◌, arith}
-use Rattle.cg_moves.proofs.FoundKeys.{grids-more, numbers-more}
+use Rattle.cg_moves.proofs.FoundKeys.{few-more, grids-more, numbers-more}
 use Rattle.cg_moves.proofs.found.Found.put.Goals as goal
 
 pub invariant_of-self-in_err-push : goal.invariant_of-self-in_err-push
@@ -13,4 +13,5 @@ invariant_of-self-2 c =
       numbers-more c.self.inside.by_number c.add.new.self boards c.args.board c.args.key_hash c.self.invariant.0
           c.requires.hash c.in_ok-add.ensures.more,
       grids-more boards c.args.board c.self.invariant.1 c.requires.grid,
+      few-more boards c.args.board c.in_ok-number.number (omega arith) (omega arith),
     )

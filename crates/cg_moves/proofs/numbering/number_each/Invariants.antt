@@ -3,7 +3,7 @@ use Rattle.std.specs.List.{flat_map}
 use Rattle.cg_moves.specs.Kept.{kept}
 use Rattle.cg_moves.specs.Linked.{NumberedAs}
 use Rattle.cg_moves.specs.Rules.{pieces}
-use Rattle.cg_moves.proofs.linking.number_each.Given as goal
+use Rattle.cg_moves.proofs.numbering.number_each.Given as goal
 
 abbrev pub invariant-loop-board : goal.invariant-loop-board
 invariant-loop-board g l = record {

@@ -1,7 +1,6 @@
 use Rattle.std.proofs.Common.{◌∙◌}
-use Rattle.cg_moves.specs.Rules.{pieces}
 use Rattle.cg_moves.proofs.Numberings.{all_pieces-same}
-use Rattle.cg_moves.proofs.linking.number_pieces.Goals as goal
+use Rattle.cg_moves.proofs.numbering.number_pieces.Goals as goal
 
 pub number_all-requires : goal.number_all-requires
 number_all-requires g c =

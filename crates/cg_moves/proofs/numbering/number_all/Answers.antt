@@ -4,7 +4,7 @@ use Rattle.cg_moves.specs.Kept.{kept}
 use Rattle.cg_moves.proofs.Broad.{same_symbols-kept}
 use Rattle.cg_moves.proofs.Numberings.{found-next, numbered-next, taken-in}
 use Rattle.cg_moves.proofs.Places.{in_read}
-use Rattle.cg_moves.proofs.linking.number_all.Goals as goal
+use Rattle.cg_moves.proofs.numbering.number_all.Goals as goal
 
 pub number_of-requires : goal.number_of-requires
 number_of-requires c =

@@ -6,7 +6,7 @@ use Rattle.cg_moves.specs.Kept.{kept}
 use Rattle.cg_moves.specs.Rules.{pieces}
 use Rattle.cg_moves.proofs.Numberings.{parts-found, parts-numbered, pieces-same, pieces-uncut}
 use Rattle.cg_moves.proofs.Places.{in_read, take_next}
-use Rattle.cg_moves.proofs.linking.number_each.Goals as goal
+use Rattle.cg_moves.proofs.numbering.number_each.Goals as goal
 
 pub number_cut-requires : goal.number_cut-requires
 number_cut-requires g c =

@@ -1,7 +1,7 @@
 use Rattle.std.proofs.Common.{◌≡◌, take}
 use Rattle.cg_moves.specs.Kept.{kept}
 use Rattle.cg_moves.specs.Linked.{NumberedAs}
-use Rattle.cg_moves.proofs.linking.number_all.Given as goal
+use Rattle.cg_moves.proofs.numbering.number_all.Given as goal
 
 abbrev pub invariant-loop-board : goal.invariant-loop-board
 invariant-loop-board l = record {

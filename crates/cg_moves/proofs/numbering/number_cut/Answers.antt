@@ -5,7 +5,7 @@ use Rattle.cg_moves.proofs.Carried.{if_ok, ok_any}
 use Rattle.cg_moves.proofs.Numberings.{known-found, known-numbered}
 use Rattle.cg_moves.proofs.Members.{carry}
 use Rattle.cg_moves.proofs.PlaceLemmas.{at-in}
-use Rattle.cg_moves.proofs.linking.number_cut.Goals as goal
+use Rattle.cg_moves.proofs.numbering.number_cut.Goals as goal
 
 pub returns-in-Some-clause-found : goal.returns-in-Some-clause-found
 returns-in-Some-clause-found g c =
