@@ -6,3 +6,4 @@ pub mod SoundSides
 pub mod Special
 pub mod OneRun
 pub mod StatementAnswers
+pub mod Free

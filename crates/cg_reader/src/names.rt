@@ -10,6 +10,7 @@ ghost use Rattle.cg_grammar.specs.Values.{letter_or_digit};
 ghost use Rattle.cg_reader.specs.Views.{found_of};
 
 use crate::found::Found;
+use crate::questions::{Kind, kind_of};
 use cg_query::{Expr, Text};
 use cg_reading::{ReadFault, is_digit};
 use std::alloc::Global;
@@ -76,18 +77,14 @@ pub fn is_word(word: &[u8], other: &[u8]) -> bool
 }
 
 /// Whether the word may be a name: it is no word of a question.
+#[tactic(auto, using(crate::proofs::Free::name_is))]
 fn is_free(word: &[u8]) -> bool
     ensures { result ≡ is_free word.now }
 {
-    let is_question = is_word(word, b"compare")
-        || is_word(word, b"outcome")
-        || is_word(word, b"stops")
-        || is_word(word, b"mean")
-        || is_word(word, b"temp")
-        || is_word(word, b"thermo")
-        || is_word(word, b"proof")
-        || is_word(word, b"check");
-    !is_question
+    match kind_of(word) {
+        Kind::Name => true,
+        _ => false,
+    }
 }
 
 /// A name.
