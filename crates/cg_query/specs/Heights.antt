@@ -1,5 +1,5 @@
 -- How high trees are, and what is said of each tree of a question.
-use Rattle.std.specs.Prelude.{ℕ, suc, max}
+use Rattle.std.specs.Prelude.{ℕ, suc, max, List, [], ◌∷◌}
 use Rattle.cg_query.specs.Tree.{Tree, Trees, Terms, Question, sides, negative, multiple, sum, no_trees, with_tree}
 use Rattle.cg_query.specs.Tree.{no_terms, with_term, value, compare, outcome, stops, mean, temp, thermo, proof, check}
 
@@ -20,14 +20,24 @@ abbrev mutual
   term_heights no_terms = 0
   term_heights (with_term minus t ts) = max (height t) (term_heights ts)
 
+-- the trees of a question, the first one first
+abbrev pub trees_of_question : Question → List Tree
+trees_of_question (value t) = t ∷ []
+trees_of_question (outcome t) = t ∷ []
+trees_of_question (stops t) = t ∷ []
+trees_of_question (mean t) = t ∷ []
+trees_of_question (temp t) = t ∷ []
+trees_of_question (thermo t) = t ∷ []
+trees_of_question (compare s t) = s ∷ t ∷ []
+trees_of_question (proof s t) = s ∷ t ∷ []
+trees_of_question (check s t text) = s ∷ t ∷ []
+
+-- each of these trees
+abbrev pub EachIs : (Tree → Type 0) → List Tree → Type 0
+EachIs P [] = Unit {0}
+EachIs P (t ∷ []) = P t
+EachIs P (s ∷ t ∷ ts) = P s × EachIs P (t ∷ ts)
+
 -- each tree of the question
 abbrev pub QuestionIs : (Tree → Type 0) → Question → Type 0
-QuestionIs P (value t) = P t
-QuestionIs P (outcome t) = P t
-QuestionIs P (stops t) = P t
-QuestionIs P (mean t) = P t
-QuestionIs P (temp t) = P t
-QuestionIs P (thermo t) = P t
-QuestionIs P (compare s t) = P s × P t
-QuestionIs P (proof s t) = P s × P t
-QuestionIs P (check s t text) = P s × P t
+QuestionIs P q = EachIs P (trees_of_question q)

@@ -1,5 +1,5 @@
 -- What expressions and queries of the code stand for.
-use Rattle.std.specs.Prelude.{List, map, Bool}
+use Rattle.std.specs.Prelude.{List, [], ◌∷◌, map, Bool}
 use Rattle.cg_query.specs.Tree.{Tree, Question, Statement, asks, defines, number, ups, nimber, switch, tiny, braces, negative, multiple}
 use Rattle.cg_query.specs.Tree.{sum, game, octal, used, terms_from, value, compare, outcome, stops, mean, temp, thermo, proof, check}
 use Rattle.cg_query.specs.declared.expr.Expr.{Expr}
@@ -10,6 +10,8 @@ use Rattle.cg_query.specs.declared.expr.Expr.TheOpen.{Expr-F, Exprs-F, Term-F, T
 use Rattle.cg_query.specs.declared.expr.Expr.TheFolds.{fold-Expr, fold-Exprs, fold-Term, fold-Terms}
 use Rattle.cg_query.specs.declared.query.Query.{Query}
 use Rattle.cg_query.specs.declared.query.Query.TheVariants as queries
+use Rattle.cg_query.specs.declared.query.Subject.{Subject}
+use Rattle.cg_query.specs.declared.query.Subject.TheVariants as subjects
 use Rattle.cg_query.specs.declared.query.Statement as code_statement
 use Rattle.cg_query.specs.declared.query.Statement.TheVariants as statements
 
@@ -72,6 +74,11 @@ question_of (queries.Temp e) = temp (tree_of e)
 question_of (queries.Thermo e) = thermo (tree_of e)
 question_of (queries.Proof e f) = proof (tree_of e) (tree_of f)
 question_of (queries.Check e f text) = check (tree_of e) (tree_of f) text
+
+-- the trees of one expression, or of two
+abbrev pub trees_about : Subject → List Tree
+trees_about (subjects.One e) = tree_of e.now ∷ []
+trees_about (subjects.Two e f) = tree_of e.now ∷ tree_of f.now ∷ []
 
 -- what a line of format 2 states
 abbrev pub statement_of : code_statement.Statement → Statement

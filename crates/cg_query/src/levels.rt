@@ -5,22 +5,15 @@ ghost use Rattle.cg_query.specs.Trees.{question_of, terms_in, tree_of, trees_in}
 ghost use Rattle.cg_query.specs.Heights.{QuestionIs, height, heights, term_heights};
 
 use crate::expr::{Expr, Exprs, Terms};
-use crate::query::Query;
+use crate::query::{Query, Subject};
 
 /// Whether each path of the query's trees has at most 64 nodes. Such a query that some line reads as can be written.
 pub fn is_low(query: &Query) -> bool
     ensures { IsTrue result ↔ QuestionIs (λ t. height t ≤ 64) (question_of query.now) }
 {
-    match query {
-        Query::Value(expr) => is_within(64, expr),
-        Query::Compare(first, second) => both_within(64, first, second),
-        Query::Outcome(expr) => is_within(64, expr),
-        Query::Stops(expr) => is_within(64, expr),
-        Query::Mean(expr) => is_within(64, expr),
-        Query::Temp(expr) => is_within(64, expr),
-        Query::Thermo(expr) => is_within(64, expr),
-        Query::Proof(first, second) => both_within(64, first, second),
-        Query::Check(first, second, _) => both_within(64, first, second),
+    match query.subject() {
+        Subject::One(expr) => is_within(64, expr),
+        Subject::Two(first, second) => both_within(64, first, second),
     }
 }
 

@@ -16,5 +16,5 @@ pub use expr::{Expr, Exprs, Term, Terms};
 pub use format::Format;
 pub use kind::GameKind;
 pub use levels::is_low;
-pub use query::{Line, Query, Statement, SyntaxFault};
+pub use query::{Line, Query, Statement, Subject, SyntaxFault};
 pub use text::Text;

@@ -1,4 +1,8 @@
 //! What a line of a session is, and why one isn't read.
+ghost use Rattle.std.specs.Prelude.{◌≡◌};
+ghost use Rattle.cg_query.specs.Heights.{trees_of_question};
+ghost use Rattle.cg_query.specs.Trees.{question_of, trees_about};
+
 use crate::expr::Expr;
 use crate::text::Text;
 use thiserror::Error;
@@ -24,6 +28,34 @@ pub enum Query {
     Proof(Expr, Expr),
     /// Does the text prove that the first is at least the second?
     Check(Expr, Expr, Text),
+}
+
+/// The expressions that a query asks about.
+#[derive(Clone, Copy)]
+pub enum Subject<'a> {
+    /// One.
+    One(&'a Expr),
+    /// Two, in their order.
+    Two(&'a Expr, &'a Expr),
+}
+
+impl Query {
+    /// The expressions that the query asks about.
+    pub fn subject(&self) -> Subject<'_>
+        ensures { trees_about result ≡ trees_of_question (question_of self.now) }
+    {
+        match self {
+            Query::Value(expr) => Subject::One(expr),
+            Query::Outcome(expr) => Subject::One(expr),
+            Query::Stops(expr) => Subject::One(expr),
+            Query::Mean(expr) => Subject::One(expr),
+            Query::Temp(expr) => Subject::One(expr),
+            Query::Thermo(expr) => Subject::One(expr),
+            Query::Compare(first, second) => Subject::Two(first, second),
+            Query::Proof(first, second) => Subject::Two(first, second),
+            Query::Check(first, second, _) => Subject::Two(first, second),
+        }
+    }
 }
 
 /// What a line is.

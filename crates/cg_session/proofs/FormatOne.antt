@@ -5,7 +5,8 @@ use Rattle.cg_query.specs.Tree.{Question, asks, defines}
 use Rattle.cg_query.specs.declared.format.Format.TheVariants as formats
 use Rattle.cg_grammar.specs.Lines.{IsColumn, IsComment, IsUnread, Reads, is_blank_line}
 use Rattle.cg_grammar.proofs.Whole.{defines_none, stated_or_column}
-use Rattle.cg_syntax.specs.Naming.{Bindings, IsClosedQuestion, are_too_large, first_unknown, question_expanded, trees_of_question, uses_of}
+use Rattle.cg_query.specs.Heights.{trees_of_question}
+use Rattle.cg_syntax.specs.Naming.{Bindings, IsClosedQuestion, are_too_large, first_unknown, question_expanded, uses_of}
 use Rattle.cg_syntax.specs.Session.{Asked_of, IsLine, Resolved, Too_large, by_names, has_some, refused, resolved, stated}
 use Rattle.cg_syntax.proofs.Closed.{closed_unused, same_question}
 use Rattle.cg_eval.specs.Reply.{IsReply, Piece}

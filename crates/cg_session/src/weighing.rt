@@ -1,7 +1,7 @@
 //! Estimates of the cost of each line, so that several workers begin with the most expensive ones.
 ghost use Rattle.std.specs.Prelude.{◌≡◌, IfOk, length};
 
-use cg_syntax::{Asked, Expr, Query, SessionLine};
+use cg_syntax::{Asked, Expr, SessionLine, Subject};
 use std::alloc::{AllocError, Global};
 
 /// The weight of a board besides its bytes: more than a line without boards can have.
@@ -30,23 +30,12 @@ pub fn weights_of(
 }
 
 fn line_weight(asked: &Asked) -> u64 {
-    match asked {
-        Asked::Query(Query::Value(expr)) => weight(expr),
-        Asked::Query(Query::Outcome(expr)) => weight(expr),
-        Asked::Query(Query::Stops(expr)) => weight(expr),
-        Asked::Query(Query::Mean(expr)) => weight(expr),
-        Asked::Query(Query::Temp(expr)) => weight(expr),
-        Asked::Query(Query::Thermo(expr)) => weight(expr),
-        Asked::Query(Query::Compare(first, second)) => {
-            weight(first).saturating_add(weight(second))
-        }
-        Asked::Query(Query::Proof(first, second)) => weight(first).saturating_add(weight(second)),
-        Asked::Query(Query::Check(first, second, _)) => {
-            weight(first).saturating_add(weight(second))
-        }
-        Asked::Syntax(_) => 0,
-        Asked::Unknown(_) => 0,
-        Asked::Parts => 0,
+    let Asked::Query(query) = asked else {
+        return 0;
+    };
+    match query.subject() {
+        Subject::One(expr) => weight(expr),
+        Subject::Two(first, second) => weight(first).saturating_add(weight(second)),
     }
 }
 

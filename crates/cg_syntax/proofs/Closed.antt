@@ -1,10 +1,11 @@
 -- What has no names is expanded to itself, and what a line of format 1 asks has none.
-use Rattle.std.proofs.Common.{◌≡◌, refl, ap, ◌∙◌, List, [], ◌∷◌, ◌++◌, ℕ}
+use Rattle.std.proofs.Common.{◌≡◌, refl, ap, ◌∙◌, List, [], ◌∷◌, ◌++◌, map, ℕ}
 use Rattle.cg_query.specs.Tree.{Tree, Trees, Terms, Question, number, ups, nimber, switch, tiny, sides, negative, multiple, sum, game, octal, used}
 use Rattle.cg_query.specs.Tree.{no_trees, with_tree, no_terms, with_term, value, compare, outcome, stops, mean, temp, thermo, proof, check}
+use Rattle.cg_query.specs.Heights.{EachIs, trees_of_question}
 use Rattle.cg_grammar.specs.Written.{AreFurther, AreTerms, AreWritable, IsAskable, IsSum, IsWritable}
 use Rattle.cg_syntax.specs.Naming.{AreClosed, AreClosedTerms, Bindings, IsClosed, IsClosedQuestion, expanded, expanded_all}
-use Rattle.cg_syntax.specs.Naming.{expanded_terms, uses, uses_all, uses_terms, uses_of, trees_of_question, question_expanded}
+use Rattle.cg_syntax.specs.Naming.{expanded_terms, uses, uses_all, uses_terms, uses_of, question_expanded}
 
 abbrev Use : Type 0
 Use = List ℕ × ℕ
@@ -85,22 +86,26 @@ mutual
   no_uses_terms no_terms w = refl
   no_uses_terms (with_term minus t ts) w = none_and (uses t) (uses_terms ts) (no_uses t w.0) (no_uses_terms ts w.1)
 
-one : (t : Tree) → IsClosed t → uses_of (t ∷ []) ≡ []
-one t w = none_and (uses t) [] (no_uses t w) refl
-
-two : (s t : Tree) → IsClosed s × IsClosed t → uses_of (s ∷ t ∷ []) ≡ []
-two s t w = none_and (uses s) (uses_of (t ∷ [])) (no_uses s w.0) (one t w.1)
+no_uses_of : (ts : List Tree) → EachIs IsClosed ts → uses_of ts ≡ []
+no_uses_of [] w = refl
+no_uses_of (t ∷ []) w = none_and (uses t) [] (no_uses t w) refl
+no_uses_of (s ∷ t ∷ ts) w = none_and (uses s) (uses_of (t ∷ ts)) (no_uses s w.0) (no_uses_of (t ∷ ts) w.1)
 
 pub closed_unused : (q : Question) → IsClosedQuestion q → uses_of (trees_of_question q) ≡ []
-closed_unused (value t) w = one t w
-closed_unused (outcome t) w = one t w
-closed_unused (stops t) w = one t w
-closed_unused (mean t) w = one t w
-closed_unused (temp t) w = one t w
-closed_unused (thermo t) w = one t w
-closed_unused (compare s t) w = two s t w
-closed_unused (proof s t) w = two s t w
-closed_unused (check s t text) w = two s t w
+closed_unused q w = no_uses_of (trees_of_question q) w
+
+-- ---- the expressions of a question, expanded
+
+pub expanded_trees : (bs : Bindings) (q : Question) → trees_of_question (question_expanded bs q) ≡ map (expanded bs) (trees_of_question q)
+expanded_trees bs (value t) = refl
+expanded_trees bs (outcome t) = refl
+expanded_trees bs (stops t) = refl
+expanded_trees bs (mean t) = refl
+expanded_trees bs (temp t) = refl
+expanded_trees bs (thermo t) = refl
+expanded_trees bs (compare s t) = refl
+expanded_trees bs (proof s t) = refl
+expanded_trees bs (check s t text) = refl
 
 -- ---- without a use nothing is replaced
 

@@ -1,13 +1,15 @@
 -- No question of a session has a name.
-use Rattle.std.proofs.Common.{◌≡◌, refl, ℕ, Bool, true, false, cond, ◌&&◌, List, [], ◌∷◌, ◌++◌, Option, Some, None}
+use Rattle.std.proofs.Common.{◌≡◌, refl, sym, subst, ℕ, Bool, true, false, cond, ◌&&◌, List, [], ◌∷◌, ◌++◌, map, Option, Some, None}
 use Rattle.std.specs.Str.{bytes_eq}
 use Rattle.cg_query.specs.Tree.{Tree, Trees, Terms, Question, Statement, asks, defines, number, ups, nimber, switch, tiny, sides, negative, multiple, sum, game}
-use Rattle.cg_query.specs.Tree.{octal, used, no_trees, with_tree, no_terms, with_term, value, compare, outcome, stops, mean, temp, thermo, proof, check}
+use Rattle.cg_query.specs.Tree.{octal, used, no_trees, with_tree, no_terms, with_term, value}
+use Rattle.cg_query.specs.Heights.{EachIs, trees_of_question}
 use Rattle.cg_syntax.specs.Naming.{AreClosed, AreClosedTerms, Bindings, IsClosed, IsClosedQuestion, are_too_large, bound_to}
 use Rattle.cg_syntax.specs.Naming.{expanded, expanded_all, expanded_terms, first_unknown, or_use, question_asked}
-use Rattle.cg_syntax.specs.Naming.{question_expanded, trees_of_question, unless_bound, uses, uses_all, uses_of, uses_terms}
+use Rattle.cg_syntax.specs.Naming.{question_expanded, unless_bound, uses, uses_all, uses_of, uses_terms}
 use Rattle.cg_syntax.specs.Session.{AreClosedLines, AreLines, IsClosedLine, IsLine, IsSession, Resolved, Asked_of}
 use Rattle.cg_syntax.specs.Session.{Too_large, after, bound_by, by_names, has_some, next, none, refused, resolved, stated}
+use Rattle.cg_syntax.proofs.Closed.{expanded_trees}
 use Rattle.cg_query.specs.declared.format.Format.{Format}
 
 abbrev Use : Type 0
@@ -71,22 +73,14 @@ module _ (bs : Bindings) (closed : AreClosedBindings bs) where
     terms_closed no_terms e = tt
     terms_closed (with_term minus t ts) e = let p = known_parts bs (uses t) (uses_terms ts) e in (tree_closed t p.0, terms_closed ts p.1)
 
-  one_closed : (t : Tree) → first_unknown bs (uses_of (t ∷ [])) ≡ None → IsClosed (expanded bs t)
-  one_closed t e = tree_closed t (known_parts bs (uses t) [] e).0
-
-  two_closed : (s t : Tree) → first_unknown bs (uses_of (s ∷ t ∷ [])) ≡ None → IsClosed (expanded bs s) × IsClosed (expanded bs t)
-  two_closed s t e = let p = known_parts bs (uses s) (uses_of (t ∷ [])) e in (tree_closed s p.0, one_closed t p.1)
+  each_closed : (ts : List Tree) → first_unknown bs (uses_of ts) ≡ None → EachIs IsClosed (map (expanded bs) ts)
+  each_closed [] e = tt
+  each_closed (t ∷ []) e = tree_closed t (known_parts bs (uses t) [] e).0
+  each_closed (s ∷ t ∷ ts) e = let p = known_parts bs (uses s) (uses_of (t ∷ ts)) e in (tree_closed s p.0, each_closed (t ∷ ts) p.1)
 
   question_closed : (q : Question) → first_unknown bs (uses_of (trees_of_question q)) ≡ None → IsClosedQuestion (question_expanded bs q)
-  question_closed (value t) e = one_closed t e
-  question_closed (outcome t) e = one_closed t e
-  question_closed (stops t) e = one_closed t e
-  question_closed (mean t) e = one_closed t e
-  question_closed (temp t) e = one_closed t e
-  question_closed (thermo t) e = one_closed t e
-  question_closed (compare s t) e = two_closed s t e
-  question_closed (proof s t) e = two_closed s t e
-  question_closed (check s t text) e = two_closed s t e
+  question_closed q e =
+      subst (λ (ts : List Tree). EachIs IsClosed ts) (sym (expanded_trees bs q)) (each_closed (trees_of_question q) e)
 
   -- ---- lines
 
@@ -113,7 +107,7 @@ module _ (bs : Bindings) (closed : AreClosedBindings bs) where
 
       by : (o : Option ℕ) → first_unknown bs (uses_of (t ∷ [])) ≡ o → AreClosedBindings (bound_by bs word t (by_names bs (value t) o))
       by (Some c) e = closed
-      by None e = large (has_some (uses_of (t ∷ [])) && are_too_large (trees_of_question (question_expanded bs (value t)))) (one_closed t e)
+      by None e = large (has_some (uses_of (t ∷ [])) && are_too_large (trees_of_question (question_expanded bs (value t)))) (each_closed (t ∷ []) e)
 
   after_closed : (s : Statement) → AreClosedBindings (after bs s)
   after_closed (asks q) = closed

@@ -2,16 +2,16 @@
 use Rattle.std.proofs.Common.{◌≡◌, refl, ap, sym, ◌∙◌, subst, ℕ, ◌<◌, min, max, arith, Bool, true, false, cond, List, [], ◌∷◌, map}
 use Rattle.std.specs.Prelude.{ltb, ◌||◌, ◌&&◌}
 use Rattle.std.proofs.lemmas.Bool.{lt-ltb, le-ltb, ltb-true, ltb-false}
-use Rattle.cg_query.specs.Tree.{Tree, Question, asks, defines, value, compare, outcome, stops, mean, temp, thermo, proof, check}
+use Rattle.cg_query.specs.Tree.{Tree, Question, asks, defines, value}
 use Rattle.cg_syntax.specs.Naming.{Bindings, IsClosedQuestion, are_too_large, expanded, first_unknown}
-use Rattle.cg_syntax.specs.Naming.{is_some_high, question_expanded, sum_of_parts, trees_of_question, uses_of}
+use Rattle.cg_syntax.specs.Naming.{is_some_high, question_expanded, sum_of_parts, uses_of}
 use Rattle.cg_syntax.specs.Session.{Resolved, Asked_of, Too_large, bound_by, by_names, has_some, resolved}
 use Rattle.cg_syntax.specs.Bound.{IsSizeOf, Measures, bindings_in, heights_of}
 use Rattle.cg_syntax.specs.Puts.{IsPut, PutsStatement}
-use Rattle.cg_query.specs.Heights.{height}
+use Rattle.cg_query.specs.Heights.{height, trees_of_question}
 use Rattle.cg_syntax.specs.declared.sheet.Sheet.{Sheet}
 use Rattle.cg_syntax.specs.declared.sizes.Size.{Size}
-use Rattle.cg_syntax.proofs.Closed.{closed_unused, same_expression, same_question}
+use Rattle.cg_syntax.proofs.Closed.{closed_unused, expanded_trees, same_expression, same_question}
 
 -- ---- numbers that are counted no further than they matter
 
@@ -44,17 +44,6 @@ too_large ts s m =
     ap (λ (b : Bool). b || ltb 1024 s.levels) p ∙ ap (λ (b : Bool). ltb 4096 (sum_of_parts ts) || b) l
 
 -- ---- questions
-
-expanded_trees : (bs : Bindings) (q : Question) → trees_of_question (question_expanded bs q) ≡ map (expanded bs) (trees_of_question q)
-expanded_trees bs (value t) = refl
-expanded_trees bs (outcome t) = refl
-expanded_trees bs (stops t) = refl
-expanded_trees bs (mean t) = refl
-expanded_trees bs (temp t) = refl
-expanded_trees bs (thermo t) = refl
-expanded_trees bs (compare s t) = refl
-expanded_trees bs (proof s t) = refl
-expanded_trees bs (check s t text) = refl
 
 abbrev by_both : Bindings → Question → Bool → Bool → Resolved
 by_both bs q has_use large = cond (has_use && large) Too_large (Asked_of (question_expanded bs q))

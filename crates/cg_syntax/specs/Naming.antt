@@ -113,18 +113,6 @@ abbrev mutual
 
 -- ---- statements
 
--- the expressions of a question, the first one first
-abbrev pub trees_of_question : Question → List Tree
-trees_of_question (value t) = t ∷ []
-trees_of_question (outcome t) = t ∷ []
-trees_of_question (stops t) = t ∷ []
-trees_of_question (mean t) = t ∷ []
-trees_of_question (temp t) = t ∷ []
-trees_of_question (thermo t) = t ∷ []
-trees_of_question (compare s t) = s ∷ t ∷ []
-trees_of_question (proof s t) = s ∷ t ∷ []
-trees_of_question (check s t text) = s ∷ t ∷ []
-
 -- the question about expanded expressions
 abbrev pub question_expanded : Bindings → Question → Question
 question_expanded bindings (value t) = value (expanded bindings t)

@@ -6,7 +6,8 @@ use Rattle.cg_reading.specs.Tokens.{blank}
 use Rattle.cg_query.specs.Tree.{Tree, Question, Statement, asks, defines}
 use Rattle.cg_grammar.specs.Lines.{ReadsIn, IsColumnIn}
 use Rattle.cg_syntax.specs.Naming.{Bindings, IsClosedQuestion, expanded, first_unknown, uses_of}
-use Rattle.cg_syntax.specs.Naming.{trees_of_question, question_expanded, question_asked, are_too_large}
+use Rattle.cg_query.specs.Heights.{trees_of_question}
+use Rattle.cg_syntax.specs.Naming.{question_expanded, question_asked, are_too_large}
 use Rattle.cg_syntax.specs.SessionLines.{lines_of, answered_from}
 use Rattle.cg_query.specs.declared.format.Format.{Format}
 use Rattle.cg_query.specs.declared.format.Format.TheVariants as formats

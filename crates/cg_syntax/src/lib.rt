@@ -55,7 +55,8 @@ mod sheet;
 mod sizes;
 
 pub use cg_query::{
-    Expr, Exprs, Format, GameKind, Line, Query, Statement, SyntaxFault, Term, Terms, Text, is_low,
+    Expr, Exprs, Format, GameKind, Line, Query, Statement, Subject, SyntaxFault, Term, Terms, Text,
+    is_low,
 };
 pub use cg_reader::{read_line, read_statement};
 pub use cg_writer::write_query;

@@ -1,11 +1,12 @@
 //! What the lines of a session ask, one after the other.
 ghost use Rattle.std.specs.Prelude.{◌≡◌, ◌∷◌, ◌<◌, ◌≤◌, ◌||◌, IfOk, MatchOption, OnOk, [], length, ltb, true};
 ghost use Rattle.cg_syntax.specs.Bound.{IsMeasured, IsSound, bindings_in};
-ghost use Rattle.cg_syntax.specs.Naming.{question_expanded, trees_of_question};
+ghost use Rattle.cg_syntax.specs.Naming.{question_expanded};
 ghost use Rattle.cg_syntax.specs.Session.{AreLines};
 ghost use Rattle.cg_syntax.specs.SessionLines.{answered_from, is_answered, lines_of};
 ghost use Rattle.cg_syntax.specs.Puts.{Puts, PutsStatement};
 ghost use Rattle.cg_syntax.specs.SessionViews.{lines_in};
+ghost use Rattle.cg_query.specs.Heights.{trees_of_question};
 ghost use Rattle.cg_query.specs.Tree.{asks, defines};
 ghost use Rattle.cg_query.specs.Trees.{question_of, tree_of};
 ghost use Rattle.cg_query.specs.declared.format.Format.TheVariants as formats;
@@ -15,7 +16,7 @@ use crate::session::{Asked, SessionLines};
 use crate::session_lines::{first_line, is_first_answered};
 use crate::sheet::Sheet;
 use crate::sizes::{Size, beside, measured};
-use cg_query::{Expr, Format, Line, Query, Statement, SyntaxFault, Text};
+use cg_query::{Expr, Format, Line, Query, Statement, Subject, SyntaxFault, Text};
 use cg_reader::{read_line, read_statement};
 use std::alloc::{AllocError, Global};
 
@@ -166,16 +167,9 @@ fn query_size(sheet: &Sheet, query: &Query) -> Result<Size, u64>
     requires { IsSound sheet.now }
     ensures { IsMeasured (bindings_in sheet.now) (trees_of_question (question_of query.now)) result }
 {
-    match query {
-        Query::Value(expr) => measured(sheet, expr),
-        Query::Outcome(expr) => measured(sheet, expr),
-        Query::Stops(expr) => measured(sheet, expr),
-        Query::Mean(expr) => measured(sheet, expr),
-        Query::Temp(expr) => measured(sheet, expr),
-        Query::Thermo(expr) => measured(sheet, expr),
-        Query::Compare(first, second) => both_size(sheet, first, second),
-        Query::Proof(first, second) => both_size(sheet, first, second),
-        Query::Check(first, second, _) => both_size(sheet, first, second),
+    match query.subject() {
+        Subject::One(expr) => measured(sheet, expr),
+        Subject::Two(first, second) => both_size(sheet, first, second),
     }
 }
 
