@@ -9,3 +9,5 @@ pub mod FirstPlace
 pub mod OtherLines
 pub mod ClosedSessions
 pub mod OneSession
+pub mod GrammarLevels
+pub mod SessionLevels

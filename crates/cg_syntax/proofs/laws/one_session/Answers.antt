@@ -1,4 +1,5 @@
 use Rattle.cg_syntax.proofs.ClosedSessions.{session_closed}
+use Rattle.cg_syntax.proofs.SessionLevels.{session_low}
 use Rattle.cg_syntax.proofs.OneSession.{session_long, session_once, session_some}
 use Rattle.cg_syntax.proofs.laws.one_session.Goals as goal
 
@@ -13,3 +14,6 @@ returns-clause-counted c = session_long
 
 pub returns-clause-closed : goal.returns-clause-closed
 returns-clause-closed c = session_closed
+
+pub returns-clause-low : goal.returns-clause-low
+returns-clause-low c = session_low
