@@ -1,5 +1,5 @@
 """A second program for the sessions of docs/LANGUAGE.md, written from the manual (that page, the columns and places of
-docs/ERRORS.md, the costs of docs/LIMITS.md) and the textbook's definitions alone.
+docs/ERRORS.md, the costs of docs/COSTS.md, the limits of docs/LIMITS.md) and the textbook's definitions alone.
 
 It shares no code with the calculator beside which it is run by `tools/compare-reference`. It is slow: a line is read by trying
 all ways to read it, items are listed as they are defined, and forms are trees that are compared by the definition of the
