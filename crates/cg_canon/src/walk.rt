@@ -74,6 +74,7 @@ impl Walk {
     }
 
     /// Puts the places of these games, which were all found, behind the options.
+    #[inline(always)]
     fn put_options(&mut self, marks: &[usize], games: &[Game]) -> Result<(), AllocError>
         requires { All (HasMark self.old.positions.items marks.now) games.now }
         ensures positions { self.new.positions.items ≡ self.old.positions.items }
