@@ -4,7 +4,6 @@ use Rattle.std.proofs.Common.{◌≡◌, refl, ℕ, suc, ◌<◌, ◌≤◌, ◌
 use Rattle.std.proofs.Common.{Some, None, List, [], ◌∷◌, ◌++◌, length, get_or, Bool, true, false}
 use Rattle.std.proofs.lemmas.Bool.Decides.{eqb_tells, leb_tells}
 use Rattle.std.proofs.lemmas.List.Folds.{list_any-append}
-use Rattle.std.proofs.lemmas.Option.{IfSome_then}
 use Rattle.std.proofs.lemmas.Map.Keys.{IsDistinct-push, apart_from_distinct}
 use Rattle.std.proofs.lemmas.Map.Steps.{length-le_from_distinct_below}
 use Rattle.std.specs.Prelude.{IfNone, IfSome}
@@ -15,7 +14,7 @@ use Rattle.cg_cells.specs.Store.{State, thing_at}
 use Rattle.cg_nodes.specs.Meant.{Meant, form}
 use Rattle.cg_arena.specs.Arena.{IsIndex, game_of}
 use Rattle.cg_canon.specs.declared.interner.Interner.{Interner}
-use Rattle.cg_canon.specs.Interners.{AreApart, AreHandles, HasHandle, InternerHolds, IsNew, handle_of}
+use Rattle.cg_canon.specs.Interners.{AreApart, AreHandles, InternerHolds, IsNew, handle_of}
 use Rattle.cg_canon.specs.Walking as walking
 
 -- no index
@@ -83,15 +82,6 @@ module _ (hs by_id : List ℕ) (h number : ℕ) (e : by_id ≡ hs) (m : number �
         absent = absent_at_all hs h (λ n l is. never n (none n (omega arith) (ap (λ z. get_or z n 0) e ∙ is ∙ sym m)));
         small = small;
       }
-
--- the game at the place of a handle, which is in the arena
-pub named_game : (b : Interner) (place handle : ℕ) (o : Option ℕ) → (place < length b.handles.items) × (get_or b.handles.items place 0 ≡ handle)
-    → IfSome o (λ game. (game ≡ place) × IsIndex b.arena game) → IfSome o (λ game. HasHandle b game handle)
-named_game b place handle o found at = IfSome_then o at (λ game h. rw h.0 (record { within = found.0; is = found.1 }))
-
-pub never_none : (P : Type 0) (o : Option ℕ) (place m n : ℕ) → IfNone o (m ≤ place) → n ≡ m → place < n → IfNone o P
-never_none P (Some game) place m n none same within = tt
-never_none P None place m n none same within = absurd (omega arith)
 
 -- different indexes have different games
 module _ {R : Type 0} (s : State Meant R) (b : Interner) (holds : InternerHolds s b) (injective : IsInjective (thing_at s)) where

@@ -1,5 +1,5 @@
 -- Calls that make items, one after another, as `?` hands a refusal on.
-use Rattle.std.proofs.Common.{◌≡◌, ◌∙◌, ◌≤◌, ℕ, arith, refl, sym, ap, List, ◌++◌, append-nil, Result, Ok, Err}
+use Rattle.std.proofs.Common.{◌≡◌, ◌∙◌, ◌≤◌, ℕ, arith, refl, ap, List, ◌++◌, Result, Ok, Err}
 use Rattle.std.specs.Result.{IsErrAnd}
 use Rattle.std.proofs.lemmas.Result.{err_from_is_err_and}
 use Rattle.cg_canon.proofs.MadeSteps.{made_after, stopped}

@@ -2,9 +2,9 @@
 use Rattle.std.proofs.Common.{◌≡◌, refl, ℕ, suc, ◌+◌, ◌<◌, ◌≤◌, arith, ap, sym, ◌∙◌, Option, Some, List, [], ◌∷◌, ◌++◌, length, take, get_or}
 use Rattle.std.proofs.lemmas.List.Elements.{All-push}
 use Rattle.cg_form.specs.Canonical.{Canonical}
+use Rattle.cg_form.specs.Depth.{deepest}
 use Rattle.cg_form.specs.Game.{Game, node}
 use Rattle.cg_form.specs.Simple.{NoNumber}
-use Rattle.cg_form.specs.Size.{list_size}
 use Rattle.cg_form.proofs.Best.{append_one}
 use Rattle.cg_cells.specs.Store.{Spends, State}
 use Rattle.cg_nodes.specs.declared.reading.Split.{Split}
@@ -36,25 +36,25 @@ stand_none gs = ((λ k d h. absurd (omega arith)), refl)
 pub record Done {R : Type 0} (s t : State Meant R) (list rest : Option ℕ) : Type 0 where
   pub spends : Spends 0 s t
   pub left : IsList t rest
-  pub size : list_size (listed t rest) ≤ list_size (listed s list)
+  pub depth : deepest (listed t rest) ≤ deepest (listed s list)
   pub games : List Game
   pub all : games ++ listed t rest ≡ listed s list
 
 unfoldable done_none : {R : Type 0} (s : State Meant R) (list : Option ℕ) → IsList s list → Done s s list list
-done_none s list l = record { spends = nothing_spent s; left = l; size = omega arith; games = []; all = refl }
+done_none s list l = record { spends = nothing_spent s; left = l; depth = omega arith; games = []; all = refl }
 
 -- t before the first is read, u after, and v after it was worked on
 unfoldable done_more : {R : Type 0} (s t u v : State Meant R) (list rest : Option ℕ) (top : Split) → Done s t list rest
     → Spends 0 t u → IsHead u (Some top) (listed t rest) → Spends 0 u v → Done s v list top.rest
 done_more s t u v list rest top h a i b =
     let same : listed v top.rest ≡ listed u top.rest = listed_later u v b.known top.rest i.1 in
-    let n = ap list_size (i.2) in
-    let m = ap list_size same in
-    let k = h.size in
+    let n = ap deepest (i.2) in
+    let m = ap deepest same in
+    let k = h.depth in
     record {
       spends = spends_then 0 0 s u v (spends_then 0 0 s t u h.spends a) b;
       left = is_list_later u v b.known top.rest i.1;
-      size = omega arith;
+      depth = omega arith;
       games = h.games ++ game_at u top.first ∷ [];
       all =
           ap (λ z. (h.games ++ game_at u top.first ∷ []) ++ z) same

@@ -2,16 +2,16 @@
 use Rattle.std.proofs.Common.{◌≡◌, refl, ℕ, zero, suc, ◌+◌, ◌<◌, arith, ap, sym, ◌∙◌, inl, inr}
 use Rattle.std.proofs.Common.{List, [], ◌∷◌, ◌++◌, length, length-append, take, get_or, map, pos, true, false}
 use Rattle.std.specs.List.{All, slice_range}
-use Rattle.std.proofs.lemmas.List.{append_assoc, append-nil, get_or-map, get_or_push}
+use Rattle.std.proofs.lemmas.List.{append_assoc, append-nil, get_or-map, get_or_default, get_or_push}
 use Rattle.std.proofs.lemmas.List.{length-map, map-append, take_more}
 use Rattle.std.proofs.lemmas.List.Elements.{All-push}
 use Rattle.cg_dyadic.specs.Number.{Number, whole}
 use Rattle.cg_form.specs.Game.{Among, Game, node, number}
-use Rattle.cg_arena.specs.Arena.{IsIndex, game_of, games_of}
+use Rattle.cg_arena.specs.Arena.{AreIndexes, IsIndex, game_of, games_of}
 use Rattle.cg_arena.proofs.Slices.{games_before, games_pushed, item_among, range_behind, range_none}
 use Rattle.cg_canon.specs.declared.walk.Position.{Position}
 use Rattle.cg_canon.specs.Walk.{IsPlace, indexes_of, lefts_of, rights_of}
-use Rattle.cg_canon.specs.Walking.{Appended, AreApart, AreMarked, HasPlace, found_in}
+use Rattle.cg_canon.specs.Walking.{Appended, AreApart, AreMarked, HasMark, HasPlace, found_in}
 
 -- ---- indexes and games
 
@@ -54,6 +54,19 @@ module _ (gs : List Game) (marks : List ℕ) (ps : List Position) (index : ℕ) 
       let n = indexes_length ps in
       let w = h.within in
       item_among gs (indexes_of ps) place index (omega arith) (sym h.is)
+
+-- games that were found have marks
+pub have_marks : (gs : List Game) (marks : List ℕ) (ps : List Position) (games : List ℕ) → AreMarked gs marks ps → AreApart gs
+    → AreIndexes gs games → ((g : Game) → Among g (games_of gs games) → Among g (found_in gs ps)) → All (HasMark ps marks) games
+have_marks gs marks ps games marked apart are found = λ k d less.
+    let index = get_or games k d in
+    let own : IsIndex gs index = are k d less in
+    let room = marked.room in
+    record {
+      within = omega arith;
+      place = marked_place gs marks ps index marked apart own
+          (found (game_of gs index) (item_among gs games k index less (get_or_default games k d 0 less)));
+    }
 
 -- ---- options
 

@@ -16,6 +16,11 @@ pub record HasPlace (ps : List Position) (place index : ℕ) : Type 0 where
   pub within : place < length ps
   pub is : get_or (indexes_of ps) place 0 ≡ index
 
+-- the game has a mark, which says the place of its position
+pub record HasMark (ps : List Position) (marks : List ℕ) (index : ℕ) : Type 0 where
+  pub within : index < length marks
+  pub place : HasPlace ps (get_or marks index 0) index
+
 -- the games of the positions
 abbrev pub found_in : List Game → List Position → List Game
 found_in gs ps = games_of gs (indexes_of ps)

@@ -8,7 +8,7 @@ ghost use Rattle.cg_arena.specs.Summaries.{IsSummary};
 ghost use Rattle.cg_canon.specs.Arena.{Begins};
 ghost use Rattle.cg_canon.specs.Interners.{InternerHolds};
 
-use crate::interner::{Interner, number_of_form};
+use crate::interner::Interner;
 use crate::lossy_index::number_of_handle;
 use crate::number_up_star::NumberUpStar;
 use cg_arena::{Game, Summary};
@@ -44,7 +44,8 @@ pub(crate) fn enter_number<B: BoardForms, S: CellStore<GameFacts<B>>>(
     Ok(game)
 }
 
-/// Enters the handle's game, which has these options and this summary. The only error is want of memory.
+/// Enters the handle's game, which has these options and this summary, and is looked for by this number. The only error
+/// is want of memory.
 #[inline(always)]
 pub(crate) fn enter_game<B: BoardForms, S: CellStore<GameFacts<B>>>(
     store: &S,
@@ -53,6 +54,7 @@ pub(crate) fn enter_game<B: BoardForms, S: CellStore<GameFacts<B>>>(
     lefts: &[Game],
     rights: &[Game],
     summary: &Summary,
+    number: u32,
 ) -> Result<Game, AllocError>
     requires holds { InternerHolds (S.state store.now) interner.old }
     requires game { IsGame (S.state store.now) handle }
@@ -73,7 +75,7 @@ pub(crate) fn enter_game<B: BoardForms, S: CellStore<GameFacts<B>>>(
     interner.by_id.reserve(1)?;
     interner.handles.reserve(1)?;
     let game = interner.arena.add_game(lefts, rights, summary)?;
-    interner.name(handle, number_of_form(lefts, rights));
+    interner.name(handle, number);
     let parts = interner.recognized.seen(lefts, rights);
     interner.recognized.enter(game, parts);
     Ok(game)

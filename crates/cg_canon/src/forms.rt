@@ -11,6 +11,7 @@ ghost use Rattle.cg_canon.specs.Works.{work_state};
 use crate::distinct::distinct;
 use crate::fault::ValueFault;
 use crate::item::item_of;
+use crate::made::number_of_both;
 use crate::value::Way;
 use crate::work::Work;
 use cg_cells::CellStore;
@@ -37,12 +38,13 @@ fn found_item<B: BoardForms, S: CellStore<GameFacts<B>>>(
     ensures { let W = work_state S.state work.old in FormGiven W (work_state S.state work.new)
         (can (node (games_at W lefts.now) (games_at W rights.now))) extra result }
 {
-    if let Some(form) = work.made_from(lefts, rights) {
+    let number = number_of_both(lefts, rights);
+    if let Some(form) = work.made_from(number, lefts, rights) {
         return item_of(alloc, work, form, extra);
     }
     let form = work.make_value(alloc, lefts, rights, way, extra)?;
     // Where there is no memory for it, it is made anew the next time.
-    let _kept = work.keep_made(lefts, rights, form);
+    let _kept = work.keep_made(number, lefts, rights, form);
     Ok(form)
 }
 

@@ -86,16 +86,22 @@ impl<'a, B: BoardForms, S: CellStore<GameFacts<B>>> Work<'a, B, S> {
         Ok(())
     }
 
-    /// The form that was made from these options, if it is kept.
-    pub(crate) fn made_from(&self, lefts: &[Handle], rights: &[Handle]) -> Option<Handle>
+    /// The form that was made from these options, whose number this is, if it is kept.
+    pub(crate) fn made_from(
+        &self,
+        number: u32,
+        lefts: &[Handle],
+        rights: &[Handle],
+    ) -> Option<Handle>
         ensures { IfSome result (IsFormOf (S.state self.now.store.now) lefts.now rights.now) }
     {
-        self.cache.made.find(lefts, rights)
+        self.cache.made.find(number, lefts, rights)
     }
 
-    /// Keeps the form that was made from these options.
+    /// Keeps the form that was made from these options, whose number this is.
     pub(crate) fn keep_made(
         &mut self,
+        number: u32,
         lefts: &[Handle],
         rights: &[Handle],
         form: Handle,
@@ -103,7 +109,7 @@ impl<'a, B: BoardForms, S: CellStore<GameFacts<B>>> Work<'a, B, S> {
         requires { IsFormOf (S.state self.old.store.now) lefts.now rights.now form }
         ensures { self.new ≡ self.old }
     {
-        self.cache.made.keep(lefts, rights, form)?;
+        self.cache.made.keep(number, lefts, rights, form)?;
         Ok(())
     }
 }

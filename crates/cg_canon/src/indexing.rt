@@ -7,7 +7,7 @@ ghost use Rattle.cg_canon.specs.Arena.{Begins};
 ghost use Rattle.cg_canon.specs.Interners.{InternerHolds};
 
 use crate::entering::{enter_game, enter_number};
-use crate::interner::{GameList, Interner};
+use crate::interner::{GameList, Interner, number_of_form};
 use cg_arena::{Game, summary_of_lists};
 use cg_cells::CellStore;
 use cg_nodes::{BoardForms, GameFacts, Handle, ListId, Reading, head, read};
@@ -68,6 +68,7 @@ fn new_game<B: BoardForms, S: CellStore<GameFacts<B>>>(
                 low.as_slice(),
                 high.as_slice(),
                 &summary,
+                number_of_form(low.as_slice(), high.as_slice()),
             )
         }
     }

@@ -122,7 +122,7 @@ impl Interner {
         ensures none { IfNone result (IsNew self.now.handles.items handle) }
     {
         match self.place(handle) {
-            Some(place) => self.arena.at(place),
+            Some(place) => Some(self.arena.game(place)),
             None => None,
         }
     }
@@ -144,14 +144,12 @@ impl Interner {
         }
     }
 
-    /// The form with these options, if it is found.
-    pub(crate) fn game_of_form(&self, lefts: &[Game], rights: &[Game]) -> Option<Game>
+    /// The form with these options, whose number this is, if it is found.
+    pub(crate) fn game_of_form(&self, number: u32, lefts: &[Game], rights: &[Game]) -> Option<Game>
         ensures { IfSome result (λ p. IsAt self.now.arena p (node (games_of self.now.arena lefts.now) (games_of self.now.arena rights.now))) }
     {
-        self.forms.find(
-            number_of_form(lefts, rights),
-            |place| self.form_with(place, lefts, rights),
-        )
+        self.forms
+            .find(number, |place| self.form_with(place, lefts, rights))
     }
 
     /// The handle of the game.

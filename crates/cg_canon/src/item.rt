@@ -33,7 +33,6 @@ pub fn number_item<B: BoardForms, S: CellStore<GameFacts<B>>>(
     ensures spare { OnOk result ((work_state S.state work.old).spare + extra ≤ (work_state S.state work.new).spare) }
     ensures more { (work_state S.state work.old).spare ≤ (work_state S.state work.new).spare }
 {
-    let _ = alloc;
     match x {
         None => Err(ValueFault::Range),
         Some(value) => {

@@ -41,7 +41,7 @@ fn number_of(start: u64, handles: &[Handle]) -> u64 {
 }
 
 /// A number for the two lists. Those of nimbers are the same, and are gone through once.
-fn number_of_both(lefts: &[Handle], rights: &[Handle]) -> u32 {
+pub(crate) fn number_of_both(lefts: &[Handle], rights: &[Handle]) -> u32 {
     let own = number_of(1, lefts);
     if are_same(lefts, rights) {
         return half_of(own);
@@ -79,20 +79,19 @@ impl MadeForms {
         None
     }
 
-    /// The form that was made from these options, if it is kept.
-    pub fn find(&self, lefts: &[Handle], rights: &[Handle]) -> Option<Handle>
+    /// The form that was made from these options, whose number this is, if it is kept.
+    pub fn find(&self, number: u32, lefts: &[Handle], rights: &[Handle]) -> Option<Handle>
         ensures { IfSome result (IsMade self.now lefts.now rights.now) }
     {
-        self.places.find(
-            number_of_both(lefts, rights),
-            |entry| self.form_at(entry, lefts, rights),
-        )
+        self.places
+            .find(number, |entry| self.form_at(entry, lefts, rights))
     }
 
-    /// Keeps the form that was made from these options, unless enough are kept. Nothing changes where there is no
-    /// memory.
+    /// Keeps the form that was made from these options, whose number this is, unless enough are kept. Nothing changes
+    /// where there is no memory.
     pub fn keep(
         &mut self,
+        number: u32,
         lefts: &[Handle],
         rights: &[Handle],
         form: Handle,
@@ -109,7 +108,7 @@ impl MadeForms {
             form,
         };
         self.forms.push(made)?;
-        self.places.add(number_of_both(lefts, rights));
+        self.places.add(number);
         Ok(())
     }
 }

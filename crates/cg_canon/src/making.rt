@@ -29,12 +29,14 @@ pub(crate) struct Entered {
     pub game: Option<Game>,
 }
 
-/// Enters the form that was made, with this handle, unless it is there or there is no memory for it.
+/// Enters the form that was made, with this handle, unless it is there or there is no memory for it. It is looked for by
+/// this number.
 fn enter_form<B: BoardForms, S: CellStore<GameFacts<B>>>(
     store: &S,
     interner: &mut Interner,
     handle: Handle,
     new: &NewForm,
+    number: u32,
 ) -> Option<Game>
     requires holds { InternerHolds (S.state store.now) interner.old }
     requires game { IsGame (S.state store.now) handle }
@@ -46,7 +48,7 @@ fn enter_form<B: BoardForms, S: CellStore<GameFacts<B>>>(
 {
     let lefts = new.form.lefts.as_slice();
     let rights = new.form.rights.as_slice();
-    match enter_game(store, interner, handle, lefts, rights, &new.summary) {
+    match enter_game(store, interner, handle, lefts, rights, &new.summary, number) {
         Ok(game) => Some(game),
         Err(_) => None,
     }
@@ -93,13 +95,15 @@ fn claimed_game<B: BoardForms, S: CellStore<GameFacts<B>>>(
     game(store, left_list, right_list)
 }
 
-/// Claims the form, whose options have these handles, and enters it in the interner.
+/// Claims the form, whose options have these handles, and enters it in the interner, where it is looked for by this
+/// number.
 fn claimed<B: BoardForms, S: CellStore<GameFacts<B>>>(
     store: &mut S,
     interner: &mut Interner,
     lefts: &[Handle],
     rights: &[Handle],
     new: &NewForm,
+    number: u32,
 ) -> Entered
     requires holds { InternerHolds (S.state store.old) interner.old }
     requires form { IsNewForm interner.old.arena (written interner.old.arena new.now) new.now }
@@ -118,11 +122,11 @@ fn claimed<B: BoardForms, S: CellStore<GameFacts<B>>>(
     ensures spends { (n : ℕ) × (n ≤ new.now.summary.cost) × Spends n (S.state store.old) (S.state store.new) }
 {
     let handle = claimed_game(store, lefts, rights);
-    let game = enter_form(&*store, interner, handle, new);
+    let game = enter_form(&*store, interner, handle, new, number);
     Entered { handle, game }
 }
 
-/// Makes the item of the canonical form that was found, with a cost of `extra` more.
+/// Makes the item of the canonical form that was found, with a cost of `extra` more. It is looked for by this number.
 #[tactic(auto, using(crate::proofs::InternerSteps::begins_none))]
 pub(crate) fn make_form<B: BoardForms, S: CellStore<GameFacts<B>>>(
     alloc: Global,
@@ -130,6 +134,7 @@ pub(crate) fn make_form<B: BoardForms, S: CellStore<GameFacts<B>>>(
     interner: &mut Interner,
     meter: &mut Meter,
     new: &NewForm,
+    number: u32,
     extra: u64,
 ) -> Result<Entered, ValueFault>
     requires extra { extra ≤ 8 }
@@ -146,7 +151,14 @@ pub(crate) fn make_form<B: BoardForms, S: CellStore<GameFacts<B>>>(
     let mut rights = SmallVec::new(alloc);
     put_handles(&*store, interner, new.form.rights.as_slice(), &mut rights)?;
     meter.charge_item(new.summary.charge(), extra)?;
-    Ok(claimed(store, interner, lefts.as_slice(), rights.as_slice(), new))
+    Ok(claimed(
+        store,
+        interner,
+        lefts.as_slice(),
+        rights.as_slice(),
+        new,
+        number,
+    ))
 }
 
 /// Makes the item of a number in range, with a cost of `extra` more.

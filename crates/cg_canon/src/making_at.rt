@@ -13,7 +13,7 @@ ghost use Rattle.cg_canon.specs.Paid.{IsEntered, IsPaid, MayPay, handle_in, game
 
 use crate::entering::enter_number;
 use crate::fault::ValueFault;
-use crate::interner::Interner;
+use crate::interner::{Interner, number_of_form};
 use crate::making::{Entered, make_form, make_number};
 use crate::meter::Meter;
 use crate::value::{Way, put_both};
@@ -24,7 +24,8 @@ use cg_nodes::{BoardForms, GameFacts, Handle};
 use smallvec::SmallVec;
 use std::alloc::Global;
 
-/// Makes the item of the game, with a cost of `extra` more.
+/// Makes the item of the game, with a cost of `extra` more. The store is there for the contract alone: what the meter may
+/// pay is what it has to spare.
 #[inline(always)]
 #[tactic(auto, using(crate::proofs::InternerSteps::begins_none))]
 pub(crate) fn known_at<B: BoardForms, S: CellStore<GameFacts<B>>>(
@@ -42,8 +43,6 @@ pub(crate) fn known_at<B: BoardForms, S: CellStore<GameFacts<B>>>(
         (game_of interner.now.arena game) extra result }
     ensures own { IfOk result (λ e. e.game ≡ Some game) }
 {
-    // Read for the proof alone: what the meter may pay is what the store has to spare.
-    let _ = store;
     meter.charge_item(interner.arena.charge(game), extra)?;
     Ok(Entered {
         handle: interner.handle(game),
@@ -95,13 +94,13 @@ fn new_at<B: BoardForms, S: CellStore<GameFacts<B>>>(
     ensures entered { IsEntered (S.state store.old) (S.state store.new) meter.old meter.new interner.old.arena interner.new.arena
         (written interner.old.arena new.now) extra result }
 {
-    if let Some(game) = interner.game_of_form(
-        new.form.lefts.as_slice(),
-        new.form.rights.as_slice(),
-    ) {
+    let lefts = new.form.lefts.as_slice();
+    let rights = new.form.rights.as_slice();
+    let number = number_of_form(lefts, rights);
+    if let Some(game) = interner.game_of_form(number, lefts, rights) {
         return known_at(&*store, interner, meter, game, extra);
     }
-    make_form(alloc, store, interner, meter, new, extra)
+    make_form(alloc, store, interner, meter, new, number, extra)
 }
 
 /// Makes the item of a game that is canonical as it is given, with a cost of `extra` more.
@@ -125,7 +124,8 @@ pub(crate) fn given_at<B: BoardForms, S: CellStore<GameFacts<B>>>(
     ensures entered { IsEntered (S.state store.old) (S.state store.new) meter.old meter.new interner.old.arena interner.new.arena
         (node (games_of interner.old.arena lefts.now) (games_of interner.old.arena rights.now)) extra result }
 {
-    if let Some(game) = interner.game_of_form(lefts, rights) {
+    let number = number_of_form(lefts, rights);
+    if let Some(game) = interner.game_of_form(number, lefts, rights) {
         return known_at(&*store, interner, meter, game, extra);
     }
     let summary = summary_of_lists(&interner.arena, lefts, rights);
@@ -139,6 +139,7 @@ pub(crate) fn given_at<B: BoardForms, S: CellStore<GameFacts<B>>>(
         interner,
         meter,
         &NewForm { form, summary },
+        number,
         extra,
     )
 }
@@ -236,11 +237,12 @@ pub(crate) fn make_canonical<B: BoardForms, S: CellStore<GameFacts<B>>>(
         )),
         Way::AsGiven => {
             let summary = summary_of_lists(&interner.arena, low, high);
+            let number = number_of_form(low, high);
             let new = NewForm {
                 form: both,
                 summary,
             };
-            made_handle(make_form(alloc, store, interner, meter, &new, extra))
+            made_handle(make_form(alloc, store, interner, meter, &new, number, extra))
         }
     }
 }

@@ -3,14 +3,14 @@
 //! A mark says at which place a game was found. The position at that place is read then, so a mark that a former walk
 //! left does no harm.
 ghost use Rattle.std.specs.Prelude.{◌≡◌, ℕ, ◌<◌, ◌≤◌, ◌^◌, ◌++◌, ◌∷◌, [], IfOk};
-ghost use Rattle.std.specs.Prelude.{IsTrue, List, OnOk, Err, get_or, length, false};
+ghost use Rattle.std.specs.Prelude.{All, IsTrue, List, OnOk, Err, get_or, length, false};
 ghost use Rattle.cg_form.specs.Canonical.{Canonical};
 ghost use Rattle.cg_form.specs.Extended.{positions_before};
 ghost use Rattle.cg_form.specs.Game as tree;
 ghost use Rattle.cg_form.specs.Game.{Among};
-ghost use Rattle.cg_arena.specs.Arena.{AreIndexes, IsIndex, game_of, games_of};
+ghost use Rattle.cg_arena.specs.Arena.{IsIndex, game_of};
 ghost use Rattle.cg_canon.specs.Walk.{IsPlace};
-ghost use Rattle.cg_canon.specs.Walking.{Appended, AreApart, AreMarked, HasPlace, found_in};
+ghost use Rattle.cg_canon.specs.Walking.{Appended, AreApart, AreMarked, HasMark, HasPlace, found_in};
 
 use crate::number_up_star::zero;
 use cg_arena::{Arena, Game, Read};
@@ -74,21 +74,12 @@ impl Walk {
     }
 
     /// Puts the places of these games, which were all found, behind the options.
-    fn put_options(
-        &mut self,
-        arena: &Arena,
-        marks: &[usize],
-        games: &[Game],
-    ) -> Result<(), AllocError>
-        requires apart { AreApart arena.now }
-        requires marked { AreMarked arena.now marks.now self.old.positions.items }
-        requires games { AreIndexes arena.now games.now }
-        requires found { (g : tree.Game) → Among g (games_of arena.now games.now) → Among g (found_in arena.now self.old.positions.items) }
+    #[inline(always)]
+    fn put_options(&mut self, marks: &[usize], games: &[Game]) -> Result<(), AllocError>
+        requires { All (HasMark self.old.positions.items marks.now) games.now }
         ensures positions { self.new.positions.items ≡ self.old.positions.items }
         ensures options { OnOk result (Appended self.old.positions.items self.old.options.items self.new.options.items games.now) }
     {
-        // Read for the proof alone: the marks of these games are their places.
-        let _ = arena;
         for game in games {
             self.options.push(marks[game.place()])?;
         }
@@ -125,9 +116,9 @@ impl Walk {
                 is_zero: x == zero(),
             }),
             Read::Options(left_options, right_options) => {
-                self.put_options(arena, marks, left_options)?;
+                self.put_options(marks, left_options)?;
                 let rights = self.options.len();
-                self.put_options(arena, marks, right_options)?;
+                self.put_options(marks, right_options)?;
                 Ok(Position {
                     game,
                     lefts,

@@ -1,4 +1,4 @@
-use Rattle.std.proofs.Common.{◌∙◌, ap, sym, refl, rules, arith, length}
+use Rattle.std.proofs.Common.{◌∙◌, ap, sym, rules, arith, length}
 use Rattle.std.specs.Prelude.{Err}
 use Rattle.std.proofs.lemmas.List.{length_push}
 use Rattle.std.proofs.lemmas.Result.{err_from_is_err_and}
@@ -7,7 +7,8 @@ use Rattle.cg_form.proofs.AllPositions.{closed_there}
 use Rattle.cg_nodes.proofs.Outcomes.{ok_then, passed_on}
 use Rattle.cg_nodes.proofs.Walked.{before_length}
 use Rattle.cg_arena.specs.Arena.{game_of}
-use Rattle.cg_arena.proofs.Slices.{index_of_item, item_is, item_size}
+use Rattle.cg_arena.proofs.Depths.{item_depth}
+use Rattle.cg_arena.proofs.Slices.{index_of_item, item_is}
 use Rattle.cg_canon.specs.Walking.{found_in}
 use Rattle.cg_canon.proofs.WalkPlaces.{found_length, marked_place, place_there}
 use Rattle.cg_canon.proofs.WalkSteps.{before_there, left_longer, next_found, next_longer}
@@ -123,7 +124,7 @@ pub walk_games-walk_game-requires : goal.walk_games-walk_game-requires
 walk_games-walk_game-requires t c =
     let arena = c.args.arena.now in
     let is = item_is c.args.games.now c.loop-game.game-index _ c.game-item.is c.loop-game-test.true in
-    let n = item_size arena c.args.games.now c.loop-game.game-index _ c.loop-game-test.true is in
+    let n = item_depth arena c.args.games.now c.loop-game.game-index _ c.loop-game-test.true is in
     let p = index_of_item arena c.args.games.now c.loop-game.game-index _ c.requires.games c.loop-game-test.true is in
     (search rules, (c.requires.apart, (p, (c.loop-game.invariant.stands, c.loop-game.invariant.within))))
 

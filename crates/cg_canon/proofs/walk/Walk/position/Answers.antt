@@ -1,18 +1,21 @@
 use Rattle.std.proofs.Common.{◌∙◌, inl, inr, refl}
 use Rattle.cg_arena.specs.Arena.{game_of}
-use Rattle.cg_canon.proofs.WalkPlaces.{node_place}
+use Rattle.cg_canon.proofs.WalkPlaces.{have_marks, node_place}
 use Rattle.cg_canon.proofs.WalkSteps.{option_before}
 use Rattle.cg_canon.proofs.walk.Walk.position.Goals as goal
 
-pub put_options-requires-clause-found : goal.put_options-requires-clause-found
-put_options-requires-clause-found c = λ g m.
+pub put_options-requires : goal.put_options-requires
+put_options-requires c =
+    have_marks c.args.arena.now _ _ c.in-Options.left_options.now c.requires.marked c.requires.apart c.in-Options.ensures.read.0 (λ g m.
     c.requires.found g (option_before c.args.arena.now (game_of c.args.arena.now c.args.game) c.in-Options.left_options.now c.in-Options.right_options.now g
-    c.in-Options.ensures.read.2 (inl m))
+    c.in-Options.ensures.read.2 (inl m)))
 
-pub put_options-requires-in-Options-clause-found : goal.put_options-requires-in-Options-clause-found
-put_options-requires-in-Options-clause-found c = λ g m.
-    rw c.put_options.ensures.positions (c.requires.found g (option_before c.args.arena.now
-    (game_of c.args.arena.now c.args.game) c.in-Options.left_options.now c.in-Options.right_options.now g c.in-Options.ensures.read.2 (inr m)))
+pub put_options-requires-in-Options : goal.put_options-requires-in-Options
+put_options-requires-in-Options c =
+    rw c.put_options.ensures.positions (have_marks c.args.arena.now _ _ c.in-Options.right_options.now c.requires.marked c.requires.apart
+    c.in-Options.ensures.read.1 (λ g m.
+    c.requires.found g (option_before c.args.arena.now (game_of c.args.arena.now c.args.game) c.in-Options.left_options.now c.in-Options.right_options.now g
+    c.in-Options.ensures.read.2 (inr m))))
 
 pub returns-in_ok-put_options-in-Options-2-clause-place : goal.returns-in_ok-put_options-in-Options-2-clause-place
 returns-in_ok-put_options-in-Options-2-clause-place c =
