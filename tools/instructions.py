@@ -46,12 +46,17 @@ SMALLER = {
 }
 
 
+def tool(name):
+    """The module of a tool."""
+    loader = importlib.machinery.SourceFileLoader(name.replace("-", "_"), os.path.join(TOOLS, name))
+    module = importlib.util.module_from_spec(importlib.util.spec_from_loader(loader.name, loader))
+    loader.exec_module(module)
+    return module
+
+
 def worst_inputs():
     """The module of tools/worst-inputs."""
-    loader = importlib.machinery.SourceFileLoader("worst_inputs", os.path.join(TOOLS, "worst-inputs"))
-    worst = importlib.util.module_from_spec(importlib.util.spec_from_loader("worst_inputs", loader))
-    loader.exec_module(worst)
-    return worst
+    return tool("worst-inputs")
 
 
 def hostile_sessions():

@@ -2,6 +2,7 @@
 import os
 import shutil
 import subprocess
+import unittest
 
 from test_checks import REAL, Tried
 
@@ -19,13 +20,31 @@ class InputOutput(Tried):
     def test_the_real_program(self):
         ended, written = self.run_tool("refuse-input-output", "2")
         self.assertEqual(ended, 0, written)
-        self.assertIn("8 of them with calls that failed, 0 ended wrong", written)
+        self.assertIn("40 of them with calls that failed, 0 ended wrong", written)
 
     def test_a_status_that_is_lost(self):
         self.fault('"$REAL" "$@"; exit 0', "call 1 of read fails by EAGAIN: (0, b'', b'')",
                    "call 1 of write fails by EAGAIN: (0, b'', b'')", "a reader goes away at byte 0: (0, b'', b'')",
                    "/dev/full: (0, None, b'')", "a file of at most 0 bytes: (0, b'', b'')", "closed output: (0, b'', b'')",
-                   "closed input: (0, b'', b'')", "an input that is a folder: (0, b'', b'')")
+                   "closed input: (0, b'', b'')", "an input that is a folder: (0, b'', b'')",
+                   "call -1 of read fails by EBADF: (0, b'', b'')", "call -1 of write fails by EBADF: (0, b'', b'')",
+                   "call 1 of write fails by ENOSPC: (0, b'', b'')", "a pipe that doesn't wait, and has 0 bytes: (0, b'', b'')",
+                   "a pipe that doesn't wait, and has room for 1 bytes: (0, True, b'')")
+
+    @unittest.skipUnless(os.geteuid() == 0, "only root mounts a file system")
+    def test_a_file_system_that_is_full(self):
+        self.fault('"$REAL" "$@"; exit 0', "a file system with room for 0 bytes: (0, b'', b'')",
+                   "a file system with room for 1 bytes: (0, b'2', b'')")
+        self.fault('"$REAL" "$@" | LD_PRELOAD= tr 2 3; exit 4', "a file system with room for 1 bytes: (4, b'3', b'")
+
+    def test_a_pipe_from_which_more_is_taken(self):
+        """A program that waits for what doesn't come, or writes what isn't an answer into the last room."""
+        self.fault('case "$LD_PRELOAD" in "") "$REAL" "$@" < /dev/null; printf x; exit 4;; esac; exec "$REAL" "$@"',
+                   "a pipe that doesn't wait, and has room for 1 bytes: (4, False, b'')")
+
+    def test_a_call_that_is_made_again(self):
+        """A program that goes on after EINTR, EAGAIN or another error of one call."""
+        self.fault('cat > "$0.$$"; FAIL_WRITE= "$REAL" "$@" < "$0.$$"', "call 1 of write fails by EINTR: (0, b'2: ^*")
 
     def test_another_status(self):
         self.fault('"$REAL" "$@"; ended=$?; [ $ended = 4 ] && exit 3; exit $ended', "/dev/full: (3, None, b'')")
@@ -38,15 +57,15 @@ class InputOutput(Tried):
         self.fault('"$REAL" "$@" | sed "s/2/3/"; exit 4', "a file of at most 353 bytes: (4, b'3: ^*")
 
     def test_a_reader_that_goes_away(self):
-        self.fault('"$REAL" "$@" > "$0.text"; cat "$0.text"', "a reader goes away at byte 0: (141, b'', b'')")
+        self.fault('"$REAL" "$@" > "$0.$$"; cat "$0.$$"', "a reader goes away at byte 0: (141, b'', b'')")
 
     def test_no_call_fails(self):
         self.fault('unset LD_PRELOAD; exec "$REAL" "$@"', "no call failed")
 
     def test_a_fault_that_is_not_told(self):
         """After a call that failed the answers are written anew."""
-        self.fault('LD_PRELOAD= cat > "$0.in"; "$REAL" "$@" < "$0.in" > "$0.text"; ended=$?; [ $ended = 4 ] || exit $ended\n'
-                   'LD_PRELOAD= exec "$REAL" "$@" < "$0.in"', "call 1 of write fails by EAGAIN: (0, b'2: ^*")
+        self.fault('LD_PRELOAD= cat > "$0.$$"; "$REAL" "$@" < "$0.$$" > "$0.text.$$"; ended=$?; [ $ended = 4 ] || exit $ended\n'
+                   'LD_PRELOAD= exec "$REAL" "$@" < "$0.$$"', "call 1 of write fails by EAGAIN: (0, b'2: ^*")
 
 
 # A function that takes a size of the stack, some bytes of it at a time, as compilers do that touch each page.
@@ -84,28 +103,9 @@ int g(int n) {{ return n + 1; }}
 class Stack(Tried):
     """stack-bound, with programs that it can't answer for."""
 
-    def built(self, source, *words, kind="c"):
-        """A program in C, or in assembler, built without improvements."""
-        path = os.path.join(self.folder, "built")
-        with open(f"{path}.{kind}", "w", encoding="utf-8") as file:
-            file.write(source)
-        subprocess.run(["cc", "-O0", "-o", path, f"{path}.{kind}", *words], check=True)
-        return path
-
     def probed(self, size="mov $0,%eax", end="mov %rsi,%rsp", behind=""):
         """A program that takes a size of the stack in steps."""
         return self.built(PROBED.format(size=size, end=end, behind=behind), "-Wl,-z,noexecstack", kind="s")
-
-    def spoilt(self, before, behind):
-        """The tools, with a text of stack-bound replaced."""
-        top = self.copied()
-        path = os.path.join(top, "tools", "stack-bound")
-        with open(path, encoding="utf-8") as file:
-            text = file.read()
-        self.assertEqual(text.count(before), 1, before)
-        with open(path, "w", encoding="utf-8") as file:
-            file.write(text.replace(before, behind))
-        return top
 
     def test_the_real_program(self):
         ended, written = self.run_tool("stack-bound", "--run")
@@ -113,7 +113,7 @@ class Stack(Tried):
         self.assertIn("the deepest inputs are answered at ulimit -s", written)
 
     def test_a_recursion_without_a_depth(self):
-        top = self.spoilt('    ("cg_eval::evaluate::", 1_024, "levels of an expression"),\n', "")
+        top = self.spoilt("stack-bound", '    ("cg_eval::evaluate::", 1_024, "levels of an expression"),\n', "")
         self.fails("cg_eval::evaluate::", "stack-bound", top=top)
         self.fails("NO DEPTH IS KNOWN", "stack-bound", top=top)
 
@@ -165,5 +165,5 @@ class Stack(Tried):
         self.fails("where the first thread begins can't be found", "stack-bound", program=path)
 
     def test_too_little_stack(self):
-        top = self.spoilt("twice = -(-most // 512)", "twice = 200")
+        top = self.spoilt("stack-bound", "twice = -(-most // 512)", "twice = 200")
         self.fails("sums by names, 64 workers: not answered at ulimit -s 200", "stack-bound", "--run", top=top)

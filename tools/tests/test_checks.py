@@ -57,6 +57,26 @@ class Tried(unittest.TestCase):
         if status == 2:
             self.assertEqual(written.count("\n"), 1, written)
 
+    def built(self, source, *words, kind="c", name="built"):
+        """A program in C, or in assembler, built without improvements."""
+        path = os.path.join(self.folder, name)
+        with open(f"{path}.{kind}", "w", encoding="utf-8") as file:
+            file.write(source)
+        subprocess.run(["cc", "-O0", "-o", path, f"{path}.{kind}", *words], check=True)
+        return path
+
+    def spoilt(self, name, before, behind):
+        """A copy of the tools in which a text of one of them is replaced."""
+        shutil.rmtree(os.path.join(self.folder, "copy"), ignore_errors=True)
+        top = self.copied()
+        path = os.path.join(top, "tools", name)
+        with open(path, encoding="utf-8") as file:
+            text = file.read()
+        self.assertEqual(text.count(before), 1, before)
+        with open(path, "w", encoding="utf-8") as file:
+            file.write(text.replace(before, behind))
+        return top
+
     def page(self, text):
         """The path of a document."""
         path = os.path.join(self.folder, "page.md")
@@ -203,6 +223,14 @@ class Programs(Tried):
 
 class Generator(Tried):
     """compare-reference, where the generator or the reference is spoilt."""
+
+    def built(self, source, *words, kind="c", name="built"):
+        """A program in C, or in assembler, built without improvements."""
+        path = os.path.join(self.folder, name)
+        with open(f"{path}.{kind}", "w", encoding="utf-8") as file:
+            file.write(source)
+        subprocess.run(["cc", "-O0", "-o", path, f"{path}.{kind}", *words], check=True)
+        return path
 
     def spoilt(self, name, before, behind):
         """The tools, with a text of one file replaced."""

@@ -1,9 +1,13 @@
 """bench --check, search-inputs, memory-bound and compare-workers --long fail on what they are there for."""
 import os
 import shutil
+import signal
+import subprocess
+import sys
+import time
 import unittest
 
-from test_checks import Tried
+from test_checks import ROOT, Tried
 
 NAME = "64 braces"
 
@@ -77,6 +81,24 @@ class Search(Tried):
         self.addCleanup(shutil.rmtree, folder)
         self.assertIn("1.txt", os.listdir(folder))
 
+    def test_sessions_that_take_memory(self):
+        ended, written = self.run_tool("search-inputs", "--memory", "0.05")
+        self.assertEqual(ended, 0, written)
+        self.assertRegex(written, r"1: \d+ bytes, -?[\d,.]+ KB: ")
+        shutil.rmtree(written.split()[-1])
+
+    def test_sessions_that_take_more_memory_than_they_may(self):
+        """The sessions are kept; those that write much are stopped, and count for nothing."""
+        program = self.program('/usr/bin/python3 -c "b = bytearray(b\'1\') * (260 << 20)"; exec "$REAL" "$@"')
+        ended, written = self.run_tool("search-inputs", "--memory", "0.01", program=program)
+        self.assertEqual(ended, 1, written)
+        self.assertRegex(written, r"search-inputs: 2\d\d MB, and may take [12]\d\d: ")
+        self.assertIn("bad-1.txt", os.listdir(written.split()[-1]))
+        shutil.rmtree(written.split()[-1])
+        ended, written = self.run_tool("search-inputs", "--memory", "0.01", program=self.program("exec yes"))
+        self.assertRegex(written, r"^search-inputs: \d+ runs, 0 ended badly;")
+        shutil.rmtree(written.split()[-1])
+
 
 class Memory(Tried):
     """memory-bound, with programs that take more."""
@@ -112,13 +134,49 @@ class Threads(Tried):
         self.assertIn("19 runs, 0 wrong", written)
 
     def test_answers_that_depend_on_circumstances(self):
-        self.differs('[ "$2" = 7 ]', "long session 0 differs with 7 workers\n")
-        self.differs('[ "$(nproc)" = 1 ]', "long session 0 differs with 2 workers on one processor\n")
-        self.differs('[ -n "$LD_PRELOAD" ]', "long session 0 differs with 3 workers and delays")
+        self.differs('[ "$2" = 7 ]', "long session 1 differs with 7 workers\n")
+        self.differs('[ "$(nproc)" = 1 ]', "long session 1 differs with 2 workers on one processor\n")
+        self.differs('[ -n "$LD_PRELOAD" ]', "long session 1 differs with 3 workers and delays")
 
     def test_nothing_is_delayed(self):
         program = self.program('unset LD_PRELOAD; exec "$REAL" "$@"')
         self.fails("or nothing was delayed", "compare-workers", "--long", "1", program=program)
+
+    def test_a_seed(self):
+        """A piece of a long run begins with its own seed."""
+        script = '[ "$2" = 3 ] && exit 1; exec "$REAL" "$@"'
+        for words, first in ((("--long",), "long session 7"), ((), "session 7")):
+            ended, written = self.run_tool("compare-workers", *words, "--seed", "7", "1", program=self.program(script))
+            self.assertEqual(ended, 1, written)
+            self.assertIn(f"compare-workers: {first} differs with 3 workers\n", written)
+            self.assertNotIn("session 1 ", written)
+
+    def test_sessions_side_by_side(self):
+        """As many run at once as is said."""
+        script = 'touch "$0-$$"; sleep 0.2; [ "$(ls "$0"-* | wc -l)" -gt 1 ] && touch "$0.both"\n"$REAL" "$@"; end=$?; rm "$0-$$"\n'
+        for jobs, both in ("1", False), ("2", True):
+            ended, written = self.run_tool("compare-workers", "--jobs", jobs, "2", program=self.program(script + "exit $end"))
+            self.assertEqual(ended, 0, written)
+            self.assertEqual(os.path.exists(os.path.join(self.folder, "program.both")), both)
+
+    def test_a_run_without_end(self):
+        top = self.spoilt("compare-workers", "SECONDS = 600", "SECONDS = 1")
+        program = self.program('[ "$2" = 8 ] && exec sleep 9; exec "$REAL" "$@"')
+        self.fails("session 1 differs with 8 workers", "compare-workers", "1", top=top, program=program)
+
+    def test_an_end_before_the_end(self):
+        """Ctrl-C ends it, with a tally of what was compared."""
+        environment = dict(os.environ, CG=self.program('touch "$0.begun"; sleep 0.1; exec "$REAL" "$@"'))
+        words = [sys.executable, "-B", os.path.join(ROOT, "tools", "compare-workers"), "--jobs", "1", "100000"]
+        with subprocess.Popen(words, env=environment, stdout=subprocess.PIPE, stderr=subprocess.STDOUT) as started:
+            for _ in range(600):
+                if os.path.exists(os.path.join(self.folder, "program.begun")):
+                    break
+                time.sleep(0.1)
+            started.send_signal(signal.SIGINT)
+            written = started.stdout.read().decode()
+        self.assertEqual(started.returncode, 130, written)
+        self.assertRegex(written, r"compare-workers: \d+ sessions .*, 0 wrong, ended before its end\n$")
 
 
 if __name__ == "__main__":
