@@ -15,8 +15,8 @@ DELAYS = r'''
 #include <stdlib.h>
 #include <unistd.h>
 
-/* Waits up to so many microseconds, or gives up the processor, as the numbers say that follow the one in DELAY_SEED. DELAY_TELL is
-   a file descriptor to which the first delay writes a byte. */
+/* Waits up to so many microseconds, or gives up the processor, as numbers say that are drawn by the seed in DELAY_SEED; those of
+   neighbouring seeds have nothing in common. DELAY_TELL is a file descriptor to which the first delay writes a byte. */
 static atomic_ulong drawn;
 static int told;
 
@@ -28,7 +28,7 @@ static unsigned long draw(void) {
         if (tell && !told++)
             (void)!write(atoi(tell), "d", 1);
     }
-    unsigned long number = (atomic_fetch_add(&drawn, 1) + seed) * 0x9E3779B97F4A7C15ul;
+    unsigned long number = (atomic_fetch_add(&drawn, 1) + seed * 0xD1342543DE82EF95ul) * 0x9E3779B97F4A7C15ul;
     return (number ^ number >> 29) * 0xBF58476D1CE4E5B9ul >> 33;
 }
 
