@@ -30,7 +30,7 @@ module _ (arena : List Game) (m : Pair) (before now : List ℕ) where
   pub checking_all : (all : List Stage) → both_numbers m ≡ false → AreStages arena all → stages_at arena all ≡ moves m
       → Reads (IsByte 40) before (Some now) → Checking arena m before now all
   checking_all all b a e f = record {
-    walk = walk_all arena m all a e;
+    walk = walk_all arena m all b a e;
     onward = rw e (λ r v. reads_then (IsProofText m) (IsByte 40) (Closed (moves m)) (proof_splits m b) before now r f v);
   }
 

@@ -6,6 +6,7 @@ pub mod Listing
 pub mod Staging
 pub mod Choosing
 pub mod Moving
+pub mod Heights
 pub mod Walking
 pub mod Writing
 pub mod AnswerWords

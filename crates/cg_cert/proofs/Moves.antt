@@ -60,7 +60,7 @@ pub record Answered (a : Answer) (m k : Pair) : Type 0 where
   pub serves : AtLeast k → ¬ Le m.first m.second
 
 -- what the place of an option leads to
-placed : (f : Game → Pair) (gs : List Game) (i : ℕ) (k : Pair) → option_map f (slice_get gs i) ≡ Some k
+pub placed : (f : Game → Pair) (gs : List Game) (i : ℕ) (k : Pair) → option_map f (slice_get gs i) ≡ Some k
     → (a : Game) × Among a gs × (k ≡ f a)
 placed f gs i k e = by (slice_get gs i) refl e
   where

@@ -119,7 +119,7 @@ module _ (arena : List Game) (m : Pair) (limit : ℕ) (before now : List ℕ) wh
   pub putting_all : (all : List Stage) → both_numbers m ≡ false → AreStages arena all → stages_at arena all ≡ moves m
       → Wrote (Ok tt) limit before now (codes "(") → Putting arena m limit before now all
   putting_all all b a e w = record {
-    walk = walk_all arena m all a e;
+    walk = walk_all arena m all b a e;
     within = w.1;
     onward = rw e (λ r new v. wrote_along r limit before new (codes "(" ++ left_text (moves m))
         (certificate_text (first_proof m)) (answered-text m b)

@@ -14,6 +14,7 @@ pub mod FaultParts
 pub mod Steps
 pub mod Expressions
 pub mod ItemLists
+pub mod Levels
 pub mod ListSteps
 pub mod Verdicts
 pub mod ProofTexts

@@ -29,7 +29,7 @@ use Rattle.cg_eval.specs.Zero.{zero_form, zero_items}
 use Rattle.cg_eval.proofs.FaultParts.{all-append, terms-append}
 use Rattle.cg_eval.proofs.Steps.{finds_game, finds_then, first_none, first_some, lacks_fault, lacks_front, lacks_items, lacks_then}
 use Rattle.cg_eval.proofs.Steps.{makes_items, makes_none, makes_then}
-use Rattle.cg_query.proofs.Walk.{size, term_sizes, trees_of-take_suc, terms_of-take_suc}
+use Rattle.cg_query.proofs.Walk.{trees_of-take_suc, terms_of-take_suc}
 use Rattle.cg_eval.proofs.ItemLists.{all_items-append, all_items-one, all_items-next, all_items-none, forms-append, forms-one, forms-none, further-append, total-append}
 use Rattle.cg_eval.proofs.ItemLists.{added_items, further-next, further-one, further-none, total-one, total-none, trees_of-split, terms_of-split, stand-more}
 
@@ -281,7 +281,3 @@ pub first_and_rest : (es : List Term) (ts : List (Bool × Tree)) (x : Term) (res
 first_and_rest es ts x rest is split =
     sym is ∙ ap (λ (z : List Term). terms_of z) split ∙ ap (λ (y : Bool × Tree). y ∷ terms_of rest)
     (term_tree x.minus x.expr)
-
-pub first_size : (ts : List (Bool × Tree)) (m : Bool) (x : Tree) (rest : List (Bool × Tree)) → ts ≡ (m, x) ∷ rest
-    → term_sizes (terms_from ts) ≡ size x + term_sizes (terms_from rest)
-first_size ts m x rest e = ap (λ (z : List (Bool × Tree)). term_sizes (terms_from z)) e

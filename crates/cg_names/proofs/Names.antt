@@ -2,8 +2,8 @@
 use Rattle.std.proofs.Common.{◌≡◌, ap, sym, ◌∙◌, ℕ, ◌≤◌, arith, Option, Some, None, List, ◌∷◌, ◌++◌, append_assoc, Result, Ok, Err, OnOk}
 use Rattle.std.proofs.lemmas.List.Elements.{All-tail}
 use Rattle.std.specs.Prelude.{codes, is_ok, if◌then◌else◌}
+use Rattle.cg_form.specs.Depth.{deepest}
 use Rattle.cg_form.specs.Game.{Game, node, of_list}
-use Rattle.cg_form.specs.Size.{list_size}
 use Rattle.cg_arena.specs.Arena.{AreIndexes, IsIndex, game_of, games_of}
 use Rattle.cg_names.specs.Name.{braces_name}
 use Rattle.cg_names.specs.Reading.{AreNamesInRange, IsNameInRange, IsNamedInRange}
@@ -37,7 +37,7 @@ braced-in_range (Ok x) g ls rs o is named_form found p q =
 pub record Written (arena : List Game) (before now : List ℕ) (all left : List ℕ) : Type 0 where
   pub are : AreIndexes arena left
   pub names : now ++ further_names (of_list (games_of arena left)) ≡ before ++ further_names (of_list (games_of arena all))
-  pub smaller : list_size (games_of arena left) ≤ list_size (games_of arena all)
+  pub no_deeper : deepest (games_of arena left) ≤ deepest (games_of arena all)
   pub in_range : AreNamesInRange (of_list (games_of arena left)) → AreNamesInRange (of_list (games_of arena all))
 
 -- a comma and the name of the next game
@@ -48,13 +48,13 @@ pub written_more : (arena : List Game) (before now comma more : List ℕ) (all r
 written_more arena before now comma more all rest first w c m q =
     let g : Game = game_of arena first in
     let further : List ℕ = further_names (of_list (games_of arena rest)) in
-    let small = w.smaller in
+    let depth = w.no_deeper in
     record {
       are = All-tail (IsIndex arena) first rest w.are;
       names = ap (λ z. z ++ further) (m ∙ ap (λ z. z ++ name_of g) c)
           ∙ append_assoc (now ++ codes ",") (name_of g) further ∙ append_assoc now (codes ",") (name_of g ++ further)
           ∙ w.names;
-      smaller = omega arith;
+      no_deeper = omega arith;
       in_range = λ r. w.in_range (q, r);
     }
 

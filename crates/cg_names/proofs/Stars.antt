@@ -3,9 +3,9 @@ use Rattle.std.proofs.Common.{◌≡◌, ap, sym, ◌∙◌, ℕ, zero, suc, ◌
 use Rattle.std.proofs.Common.{◌++◌, length, Option, Some, None, false}
 use Rattle.std.proofs.lemmas.List.{nil_from_length, same_from_push}
 use Rattle.cg_dyadic.specs.Number.{Number}
+use Rattle.cg_form.specs.Depth.{deepest, depth_of}
 use Rattle.cg_form.specs.Game.{Game, node, number}
 use Rattle.cg_form.specs.Shifted.{shifted}
-use Rattle.cg_form.specs.Size.{list_size, size}
 use Rattle.cg_names.specs.Named.{nimber_form, nimbers_below}
 use Rattle.cg_names.specs.Readings.{AreStars, stars_above}
 use Rattle.cg_names.specs.Shapes.{named_form_of}
@@ -116,7 +116,7 @@ module _ (ls rs hs : List Game) (o : Option NamedForm) (is : o ≡ named_form_of
 
 -- ---- the last option
 
--- it is no larger than all of them
-pub last_size : (gs : List Game) (g : Game) → size g ≤ list_size (gs ++ (g ∷ []))
-last_size [] g = omega arith
-last_size (h ∷ gs) g = let l = last_size gs g in omega arith
+-- it is no deeper than the deepest of them
+pub last_depth : (gs : List Game) (g : Game) → depth_of g ≤ deepest (gs ++ (g ∷ []))
+last_depth [] g = omega arith
+last_depth (h ∷ gs) g = let l = last_depth gs g in omega arith

@@ -86,7 +86,7 @@ fn star(
     ensures star { IfOk result (IsStar (node (games_of arena.now lefts.now) (games_of arena.now rights.now))) }
     ensures memo { OnOk result (Recalls arena.now memo.new) }
 {
-    if !are_same(arena, lefts, rights) {
+    if !are_same(lefts, rights) {
         return Ok(None);
     }
     match stars(arena, memo, lefts)? {

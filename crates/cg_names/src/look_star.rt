@@ -18,16 +18,11 @@ pub(crate) struct StarFound {
     pub(crate) count: u64,
 }
 
-/// Whether the two lists have the same games, which they have exactly where the same places stand in them.
-pub(crate) fn are_same(arena: &Arena, some: &[Game], others: &[Game]) -> bool
-    requires apart { AreApart arena.now }
-    requires some { AreIndexes arena.now some.now }
-    requires others { AreIndexes arena.now others.now }
-    ensures same { result ≡ true → games_of arena.now some.now ≡ games_of arena.now others.now }
-    ensures other { result ≡ false → ¬ (games_of arena.now some.now ≡ games_of arena.now others.now) }
+/// Whether the same games stand in the two lists.
+pub(crate) fn are_same(some: &[Game], others: &[Game]) -> bool
+    ensures same { result ≡ true → some.now ≡ others.now }
+    ensures other { result ≡ false → ¬ (some.now ≡ others.now) }
 {
-    // The arena is read for the proof alone.
-    let _ = arena;
     some == others
 }
 
@@ -65,7 +60,7 @@ pub(crate) fn star_on(
     match star_base(named_form) {
         None => None,
         Some(base) => {
-            if are_same(arena, lefts, others) {
+            if are_same(lefts, others) {
                 Some(base)
             } else {
                 None

@@ -9,13 +9,11 @@ ghost use Rattle.cg_names.specs.Readings.{AreNumbers, IsOnly};
 use cg_canon::{Arena, Game, Read};
 use cg_dyadic::Dyadic;
 
-/// The option of a list that has one.
+/// The option of a list that has one. The arena is there for the contract alone.
 pub(crate) fn only(arena: &Arena, list: &[Game]) -> Option<Game>
     requires { AreIndexes arena.now list.now }
     ensures { IsOnly arena.now result (games_of arena.now list.now) }
 {
-    // The arena is read for the proof alone.
-    let _ = arena;
     match list {
         [only] => Some(*only),
         _ => None,

@@ -9,6 +9,7 @@ ghost use Rattle.cg_nodes.specs.Games.{StandsFor};
 ghost use Rattle.cg_nodes.specs.Meant.{form};
 ghost use Rattle.cg_nodes.specs.Spelled.{game_meaning};
 ghost use Rattle.cg_moves.specs.Raw.{raw};
+ghost use Rattle.cg_moves.specs.Lawful.{IsLawful};
 ghost use Rattle.cg_values.specs.Items.{value_item};
 ghost use Rattle.cg_canon.specs.Made.{FormGiven, Gives, ItemsMade};
 ghost use Rattle.cg_values.specs.Notes.{IsCellOf, IsNoted, IsNumbered, MayNote, places};
@@ -31,12 +32,11 @@ fn made_item<B: BoardForms, S: CellStore<GameFacts<B>>, R: Rules>(
     board: &Board,
     options: &Options,
 ) -> Result<Handle, ValueFault>
+    requires lawful { IsLawful (R.game rules.now) }
     requires has { (R.game rules.now).has board.now ≡ true }
     requires options { AreOptions (work_state S.state work.old) (R.game rules.now) board.now options.now }
     ensures { FormGiven (work_state S.state work.old) (work_state S.state work.new) (can (raw (R.game rules.now) board.now)) 8 result }
 {
-    // Called for the proof alone: the rules are lawful.
-    rules.lawful();
     let (lefts, rights) = options.handles.as_slice().split_at(options.lefts);
     canonical(alloc, work, lefts, rights, 8)
 }
@@ -50,6 +50,7 @@ fn noted_item<B: BoardForms, S: CellStore<GameFacts<B>>, R: Rules>(
     options: &Options,
     cell: Id,
 ) -> Result<Handle, ValueFault>
+    requires lawful { IsLawful (R.game rules.now) }
     requires has { (R.game rules.now).has board.now ≡ true }
     requires options { AreOptions (work_state S.state work.old) (R.game rules.now) board.now options.now }
     requires cell { IsCellOf (work_state S.state work.old) (R.game rules.now) board.now cell }
@@ -107,6 +108,7 @@ fn numbered_item<B: BoardForms, S: CellStore<GameFacts<B>>, R: Rules>(
     options: &Options,
     start: u64,
 ) -> Result<Handle, ValueFault>
+    requires lawful { IsLawful (R.game rules.now) }
     requires has { (R.game rules.now).has board.now ≡ true }
     requires numbered { IsNumbered B.form (R.game rules.now) }
     requires options { AreOptions (work_state S.state work.old) (R.game rules.now) board.now options.now }
@@ -139,6 +141,7 @@ pub(crate) fn board_item<B: BoardForms, S: CellStore<GameFacts<B>>, R: Rules>(
     options: &Options,
     start: u64,
 ) -> Result<Handle, ValueFault>
+    requires lawful { IsLawful (R.game rules.now) }
     requires has { (R.game rules.now).has board.now ≡ true }
     requires notes { MayNote B.form (R.game rules.now) }
     requires options { AreOptions (work_state S.state work.old) (R.game rules.now) board.now options.now }

@@ -3,7 +3,7 @@ use Rattle.cg_cert.specs.Certificate.{answer_in}
 use Rattle.cg_cert.specs.Positions.{stage_at}
 use Rattle.cg_cert.proofs.AnswerTexts.{lettered, reads_no_letter, reads_no_place}
 use Rattle.cg_cert.proofs.CheckSteps.{answer_then, checking_all, checking_end, checking_more, checking_no_bracket, checking_stop}
-use Rattle.cg_cert.proofs.Moves.{led-answered}
+use Rattle.cg_cert.proofs.Heights.{led-lower}
 use Rattle.cg_cert.proofs.checking.+check.Goals as goal
 
 pub check_proof-returns-in_default-clause-reads : goal.check_proof-returns-in_default-clause-reads
@@ -45,8 +45,8 @@ pub check_reply-check_proof-requires : goal.check_reply-check_proof-requires
 check_reply-check_proof-requires g t c κs within =
     let arena = c.args.work.now.arena in
     let h = rw c.in-Some-2.is at c.in_ok-led.ensures in
-    let k = (led-answered (answer_in c.in-Some.letter.is_first h.1.place) (stage_at arena c.args.stage.now)
-    (stage_at arena c.in-Some-2.leads) h.1.leads).smaller in
+    let k = led-lower (answer_in c.in-Some.letter.is_first h.1.place) (stage_at arena c.args.stage.now)
+    (stage_at arena c.in-Some-2.leads) h.1.leads in
     (search rules, (within.0, (within.1.0, (within.1.1, h.0))))
 
 pub check_reply-returns-in-None-clause-reads : goal.check_reply-returns-in-None-clause-reads

@@ -1,14 +1,14 @@
-use Rattle.std.proofs.Common.{◌≡◌, ◌+◌, ◌*◌, drop, length}
-use Rattle.cg_cert.specs.Pairs.{pair_size}
+use Rattle.std.proofs.Common.{◌≡◌, drop, length}
 use Rattle.cg_cert.specs.Positions.{stage_at}
 use Rattle.cg_cert.proofs.CheckSteps.{Checking}
+use Rattle.cg_cert.proofs.Heights.{proof_height, reply_height}
 use Rattle.cg_cert.proofs.checking.+check.Given as goal
 
 abbrev pub decreases-check_proof : goal.decreases-check_proof
-decreases-check_proof g l = 2 * pair_size (stage_at l.work.now.arena l.stage.now)
+decreases-check_proof g l = proof_height (stage_at l.work.now.arena l.stage.now)
 
 abbrev pub decreases-check_reply : goal.decreases-check_reply
-decreases-check_reply g l = 2 * pair_size (stage_at l.work.now.arena l.stage.now) + 1
+decreases-check_reply g l = reply_height (stage_at l.work.now.arena l.stage.now)
 
 abbrev pub invariant-check_proof-loop-next : goal.invariant-check_proof-loop-next
 invariant-check_proof-loop-next g l = (l.work ≡ l.fn.work)

@@ -5,7 +5,7 @@ use Rattle.cg_cert.specs.Certificate.{answer_in, answers_text, certificate_text,
 use Rattle.cg_cert.specs.First.{first_answers, first_proof, with_first}
 use Rattle.cg_cert.specs.Pairs.{moves}
 use Rattle.cg_cert.specs.Positions.{stage_at}
-use Rattle.cg_cert.proofs.Moves.{led-answered}
+use Rattle.cg_cert.proofs.Heights.{led-lower}
 use Rattle.cg_cert.proofs.Moving.{move_answer, no_answer}
 use Rattle.cg_cert.proofs.Writing.{answer_text-letter, answered-text, left_text, putting_all, putting_fault, putting_more}
 use Rattle.cg_cert.proofs.Writing.{reply_text, settled-text, wrote_along, wrote_exit, wrote_fault, wrote_nothing}
@@ -31,7 +31,7 @@ put_reply-put_move-requires g t c κs within =
     let r = rw c.in-Some.is at c.in_ok-first_move.ensures.found in
     let found = c.in-Some.found in
     let led = (move_answer m found.is_first found.place _ _ r.0).1 in
-    let smaller = (led-answered (answer_in found.is_first found.place) m (stage_at c.args.work.now.arena found.leads) led).smaller in
+    let lower = led-lower (answer_in found.is_first found.place) m (stage_at c.args.work.now.arena found.leads) led in
     rw c.first_move.ensures.same (search rules, (within.0, (within.1.0, (within.1.1, (r.1, c.requires.within)))))
 
 pub put_reply-returns-in-None-clause-wrote : goal.put_reply-returns-in-None-clause-wrote

@@ -24,9 +24,10 @@ use Rattle.cg_canon.specs.Items.{made}
 use Rattle.std.proofs.lemmas.List.{nil_from_length}
 use Rattle.cg_query.specs.declared.expr.Term.{Term}
 use Rattle.cg_eval.proofs.BoardParts.{board_finds, heap_finds}
-use Rattle.cg_query.proofs.Walk.{size, size_of_braces, size_of_negative, size_of_multiple, size_of_sum, size_of_item, size_of_term}
+use Rattle.cg_query.specs.Heights.{height}
+use Rattle.cg_eval.proofs.Levels.{first_height, height_of_braces, height_of_negative, height_of_multiple, height_of_sum, height_of_item, height_of_term}
 use Rattle.cg_eval.proofs.ListSteps.{adds, all_made-all, all_made-none, all_made-step, all_stopped, added-all, added-none, added-step, added-stopped}
-use Rattle.cg_eval.proofs.ListSteps.{first_and_rest, first_size, first_term_stopped, no_terms_find, sum_of_terms}
+use Rattle.cg_eval.proofs.ListSteps.{first_and_rest, first_term_stopped, no_terms_find, sum_of_terms}
 use Rattle.cg_eval.proofs.Expressions.{added_gives, braces_gives, left_stopped, multiple_gives, multiple_stopped, negative_gives, negative_stopped}
 use Rattle.cg_eval.proofs.Expressions.{right_stopped, signed_stopped, subtracted_gives, sum_gives, used_gives}
 use Rattle.cg_eval.proofs.Steps.{lacks_front, passed_on, stops_memory}
@@ -36,26 +37,26 @@ use Rattle.cg_eval.proofs.evaluate.+evaluate.Goals as goal
 
 pub evaluate-braces-requires : goal.evaluate-braces-requires
 evaluate-braces-requires g t c =
-    let b = size_of_braces c.args.expr.now c.in-Braces.lefts c.in-Braces.rights c.in-Braces.is in
+    let b = height_of_braces c.args.expr.now c.in-Braces.lefts c.in-Braces.rights c.in-Braces.is in
     search rules
 
 pub evaluate-minus-requires : goal.evaluate-minus-requires
 evaluate-minus-requires g t c =
-    let b = size_of_negative c.args.expr.now c.in-Negative.inner c.in-Negative.is in
-    let s : size (tree_of c.deref.result.now) ≡ size (tree_of c.in-Negative.inner.value) = ap (λ (x : Expr). size
+    let b = height_of_negative c.args.expr.now c.in-Negative.inner c.in-Negative.is in
+    let s : height (tree_of c.deref.result.now) ≡ height (tree_of c.in-Negative.inner.value) = ap (λ (x : Expr). height
     (tree_of x)) c.deref.ensures in
     search rules
 
 pub evaluate-times-requires : goal.evaluate-times-requires
 evaluate-times-requires g t c =
-    let b = size_of_multiple c.args.expr.now c.in-Multiple.count c.in-Multiple.inner c.in-Multiple.is in
-    let s : size (tree_of c.deref-in-Multiple.result.now) ≡ size (tree_of c.in-Multiple.inner.value) = ap (λ
-    (x : Expr). size (tree_of x)) c.deref-in-Multiple.ensures in
+    let b = height_of_multiple c.args.expr.now c.in-Multiple.count c.in-Multiple.inner c.in-Multiple.is in
+    let s : height (tree_of c.deref-in-Multiple.result.now) ≡ height (tree_of c.in-Multiple.inner.value) = ap (λ
+    (x : Expr). height (tree_of x)) c.deref-in-Multiple.ensures in
     search rules
 
 pub evaluate-total-requires : goal.evaluate-total-requires
 evaluate-total-requires g t c =
-    let b = size_of_sum c.args.expr.now c.in-Sum.terms c.in-Sum.is in
+    let b = height_of_sum c.args.expr.now c.in-Sum.terms c.in-Sum.is in
     search rules
 
 pub evaluate-returns-in-Game : goal.evaluate-returns-in-Game
@@ -119,7 +120,7 @@ evaluate-returns-in-Sum g t c =
 
 pub evaluate_all-evaluate-requires : goal.evaluate_all-evaluate-requires
 evaluate_all-evaluate-requires g t c =
-    let s = size_of_item c.as_slice-expr-items.result.now
+    let s = height_of_item c.as_slice-expr-items.result.now
     (trees_in c.args.exprs.now) c.loop-expr.expr-index c.expr-item.result c.as_slice-expr-items.ensures
     c.expr-item.is c.loop-expr-test.true in
     search rules
@@ -273,8 +274,8 @@ total-signed-requires g t c =
     let split = first_and_rest c.as_slice.result.now
     (terms_in c.args.terms.now) c.in-Some.first.now c.in-Some.others.now c.as_slice.ensures
     c.in-Some.ensures.cases.0 in
-    let s = first_size (terms_in c.args.terms.now) c.in-Some.first.now.minus (tree_of c.in-Some.first.now.expr)
-    (terms_of c.in-Some.others.now) split in
+    let s = (first_height (terms_in c.args.terms.now) c.in-Some.first.now.minus (tree_of c.in-Some.first.now.expr)
+    (terms_of c.in-Some.others.now) split).0 in
     search rules
 
 pub total-further-requires : goal.total-further-requires
@@ -282,8 +283,8 @@ total-further-requires g t c =
     let split = first_and_rest c.as_slice.result.now
     (terms_in c.args.terms.now) c.in-Some.first.now c.in-Some.others.now c.as_slice.ensures
     c.in-Some.ensures.cases.0 in
-    let s = first_size (terms_in c.args.terms.now) c.in-Some.first.now.minus (tree_of c.in-Some.first.now.expr)
-    (terms_of c.in-Some.others.now) split in
+    let s = (first_height (terms_in c.args.terms.now) c.in-Some.first.now.minus (tree_of c.in-Some.first.now.expr)
+    (terms_of c.in-Some.others.now) split).1 in
     let k = stands_is_game (work_state g.S.CellStore.state c.signed.new.work) c.in_ok-start-in-Some.start (can
     (signed c.in-Some.first.now.minus (meaning
     (tree_of c.in-Some.first.now.expr)))) c.in_ok-start-in-Some.ensures.1.0 in
@@ -327,10 +328,10 @@ total-returns-in_ok-start-in-Some g t c =
 
 pub further-added-requires : goal.further-added-requires
 further-added-requires g t c =
-    let s = size_of_term c.args.terms.now (terms_of c.args.terms.now) c.loop-term.term-index c.term-item.result refl
+    let s = height_of_term c.args.terms.now (terms_of c.args.terms.now) c.loop-term.term-index c.term-item.result refl
     c.term-item.is c.loop-term-test.true in
-    let e : size (tree_of c.term-item.result.expr) ≡ size (term_of c.term-item.result).1 = ap (λ (p : Bool
-    × Tree). size p.1) (sym (term_tree c.term-item.result.minus c.term-item.result.expr)) in
+    let e : height (tree_of c.term-item.result.expr) ≡ height (term_of c.term-item.result).1 = ap (λ (p : Bool
+    × Tree). height p.1) (sym (term_tree c.term-item.result.minus c.term-item.result.expr)) in
     let k = c.loop-term.invariant.known in
     search rules
 

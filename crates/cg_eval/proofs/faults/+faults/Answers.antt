@@ -8,34 +8,35 @@ use Rattle.cg_query.proofs.TreeOf.{number_tree, ups_tree_of, nimber_tree, switch
 use Rattle.cg_query.proofs.TreeOf.{octal_tree, term_tree, used_tree}
 use Rattle.cg_eval.specs.Faults.{fault_in, fault_in_all, first_of_two}
 use Rattle.cg_eval.proofs.FaultParts.{all-one_more, fault_of_braces, fault_of_tree, terms-one_more}
-use Rattle.cg_query.proofs.Walk.{size, size_of_braces, size_of_negative, size_of_multiple, size_of_sum, size_of_item, size_of_term}
+use Rattle.cg_query.specs.Heights.{height}
+use Rattle.cg_eval.proofs.Levels.{height_of_braces, height_of_negative, height_of_multiple, height_of_sum, height_of_item, height_of_term}
 use Rattle.cg_eval.proofs.faults.+faults.Goals as goal
 
 -- ---- fault_in
 
 pub fault_in-fault_in_all-requires : goal.fault_in-fault_in_all-requires
 fault_in-fault_in_all-requires t c =
-    let b = size_of_braces c.args.expr.now c.in-Braces.lefts c.in-Braces.rights c.in-Braces.is in
+    let b = height_of_braces c.args.expr.now c.in-Braces.lefts c.in-Braces.rights c.in-Braces.is in
     search rules
 
 pub fault_in-fault_in_all-requires-in-Braces : goal.fault_in-fault_in_all-requires-in-Braces
 fault_in-fault_in_all-requires-in-Braces t c =
-    let b = size_of_braces c.args.expr.now c.in-Braces.lefts c.in-Braces.rights c.in-Braces.is in
+    let b = height_of_braces c.args.expr.now c.in-Braces.lefts c.in-Braces.rights c.in-Braces.is in
     search rules
 
 pub fault_in-fault_in-requires : goal.fault_in-fault_in-requires
 fault_in-fault_in-requires t c =
-    let b = size_of_negative c.args.expr.now c.in-Negative.inner c.in-Negative.is in
+    let b = height_of_negative c.args.expr.now c.in-Negative.inner c.in-Negative.is in
     search rules
 
 pub fault_in-fault_in-requires-in-Multiple : goal.fault_in-fault_in-requires-in-Multiple
 fault_in-fault_in-requires-in-Multiple t c =
-    let b = size_of_multiple c.args.expr.now c.in-Multiple.field-0 c.in-Multiple.inner c.in-Multiple.is in
+    let b = height_of_multiple c.args.expr.now c.in-Multiple.field-0 c.in-Multiple.inner c.in-Multiple.is in
     search rules
 
 pub fault_in-fault_in_terms-requires : goal.fault_in-fault_in_terms-requires
 fault_in-fault_in_terms-requires t c =
-    let b = size_of_sum c.args.expr.now c.in-Sum.terms c.in-Sum.is in
+    let b = height_of_sum c.args.expr.now c.in-Sum.terms c.in-Sum.is in
     search rules
 
 pub fault_in-returns-in-Number : goal.fault_in-returns-in-Number
@@ -112,7 +113,7 @@ fault_in-returns-in-Octal t c =
 
 pub fault_in_all-fault_in-requires : goal.fault_in_all-fault_in-requires
 fault_in_all-fault_in-requires t c =
-    let s = size_of_item c.as_slice-expr-items.result.now
+    let s = height_of_item c.as_slice-expr-items.result.now
     (trees_in c.args.exprs.now) c.loop-expr.expr-index c.expr-item.result c.as_slice-expr-items.ensures
     c.expr-item.is c.loop-expr-test.true in
     search rules
@@ -126,11 +127,11 @@ fault_in_all-loop-expr-preserved t c = c.first_of_two-found.ensures ∙ all-one_
 
 pub fault_in_terms-fault_in-requires : goal.fault_in_terms-fault_in-requires
 fault_in_terms-fault_in-requires t c =
-    let s = size_of_term c.as_slice-term-items.result.now
+    let s = height_of_term c.as_slice-term-items.result.now
     (terms_in c.args.terms.now) c.loop-term.term-index c.term-item.result c.as_slice-term-items.ensures
     c.term-item.is c.loop-term-test.true in
-    let e : size (tree_of c.term-item.result.expr) ≡ size (term_of c.term-item.result).1 = ap (λ (p : Bool
-    × Tree). size p.1) (sym (term_tree c.term-item.result.minus c.term-item.result.expr)) in
+    let e : height (tree_of c.term-item.result.expr) ≡ height (term_of c.term-item.result).1 = ap (λ (p : Bool
+    × Tree). height p.1) (sym (term_tree c.term-item.result.minus c.term-item.result.expr)) in
     search rules
 
 pub fault_in_terms-loop-term-preserved : goal.fault_in_terms-loop-term-preserved

@@ -1,13 +1,14 @@
 use Rattle.std.proofs.Common.{ap, refl, sym, ◌∙◌, length, rules, Some, None}
 use Rattle.std.proofs.lemmas.List.{length-map, nil_from_length}
 use Rattle.std.proofs.lemmas.List.Elements.{All-pop}
-use Rattle.cg_form.specs.Size.{list_size, size}
+use Rattle.cg_form.specs.Depth.{deepest, depth_of}
 use Rattle.cg_arena.specs.Arena.{IsIndex, game_of, games_of}
 use Rattle.cg_arena.proofs.Slices.{games_pushed}
 use Rattle.cg_names.proofs.Ends.{more-named_form, no_ends, two-none}
+use Rattle.cg_names.proofs.Indexes.{same_indexes}
 use Rattle.cg_names.proofs.Looks.{is_node}
 use Rattle.cg_names.proofs.NamedFormSteps.{named_star, named_tiny, tiny_at}
-use Rattle.cg_names.proofs.Stars.{last_size, no_stars, star-is, star-lists, stars_none, stars_some}
+use Rattle.cg_names.proofs.Stars.{last_depth, no_stars, star-is, star-lists, stars_none, stars_some}
 use Rattle.cg_names.proofs.look.+look.Goals as goal
 
 pub named_by_shape-returns-in-Some-clause-named_form : goal.named_by_shape-returns-in-Some-clause-named_form
@@ -18,7 +19,9 @@ named_by_shape-returns-in-Some-clause-named_form t c =
 
 pub star-returns-then-not-are_same-clause-star : goal.star-returns-then-not-are_same-clause-star
 star-returns-then-not-are_same-clause-star t c x n e =
-    let (p, q) = star-lists _ _ x n e in c.are_same.ensures.other c.if-not-are_same.true (p ∙ sym q)
+    let (p, q) = star-lists _ _ x n e in
+    c.are_same.ensures.other c.if-not-are_same.true
+    (same_indexes c.args.arena.now c.requires.apart _ _ c.requires.lefts c.requires.rights (p ∙ sym q))
 
 pub star-returns-in-None-clause-star : goal.star-returns-in-None-clause-star
 star-returns-in-None-clause-star t c x n e =
@@ -26,7 +29,7 @@ star-returns-in-None-clause-star t c x n e =
 
 pub star-returns-in-Some-clause-star : goal.star-returns-in-Some-clause-star
 star-returns-in-Some-clause-star t c =
-    star-is _ _ c.in-Some.base (length c.args.lefts.now) (c.are_same.ensures.same c.if-not-are_same.false)
+    star-is _ _ c.in-Some.base (length c.args.lefts.now) (ap (games_of c.args.arena.now) (c.are_same.ensures.same c.if-not-are_same.false))
     (length-map c.args.lefts.now (game_of c.args.arena.now))
     (stars_some _ _ c.in-Some.base c.in-Some.is c.in_ok-stars.ensures.stars)
 
@@ -49,9 +52,9 @@ stars-named_form-requires t c =
     let gs = c.args.arena.now in
     let read = c.in-Options.ensures.read in
     let split = games_pushed gs c.in-Some.others.now c.args.options.now c.in-Some.last.now c.in-Some.ensures.cases.0 in
-    let m = ap list_size split in
-    let n = last_size (games_of gs c.in-Some.others.now) (game_of gs c.in-Some.last.now) in
-    let k = ap size read.2 in
+    let m = ap deepest split in
+    let n = last_depth (games_of gs c.in-Some.others.now) (game_of gs c.in-Some.last.now) in
+    let k = ap depth_of read.2 in
     (search rules, (c.requires.apart, (read.0, (read.1, (read.2, c.requires.memo)))))
 
 pub stars-star_on-requires-clause-others : goal.stars-star_on-requires-clause-others

@@ -1,7 +1,7 @@
 use Rattle.std.proofs.Common.{ap, rules, string_bytes}
 use Rattle.std.proofs.lemmas.List.Elements.{All-rest}
+use Rattle.cg_form.specs.Depth.{deepest}
 use Rattle.cg_form.specs.Game.{of_list}
-use Rattle.cg_form.specs.Size.{list_size}
 use Rattle.cg_arena.specs.Arena.{IsIndex, games_of}
 use Rattle.cg_names.specs.Spelled.{names_of}
 use Rattle.cg_names.proofs.Names.{braced-in_range, braces-spelled, on_ok_written, signed-in_range, written_more}
@@ -11,7 +11,7 @@ pub push_names-push_further-requires : goal.push_names-push_further-requires
 push_names-push_further-requires t c =
     let gs = c.args.arena.now in
     let e = c.in-Some.ensures.cases.0 in
-    let s = ap (λ z. list_size (games_of gs z)) e in (
+    let s = ap (λ z. deepest (games_of gs z)) e in (
       search rules,
       (
         c.requires.apart,

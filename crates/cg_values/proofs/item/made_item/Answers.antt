@@ -29,6 +29,6 @@ returns g c =
     let rs = c.split_at.result.1.now in
     let both = options-split s r p c.args.options.now c.requires.options c.as_slice.result.now ls rs c.as_slice.ensures
     c.split_at.ensures.front c.split_at.ensures.back in
-    let same = value-options s r c.lawful.ensures p ls rs c.requires.has both.0 both.1 in
+    let same = value-options s r c.requires.lawful p ls rs c.requires.has both.0 both.1 in
     let P : Game → Type 0 = λ z. FormGiven s (W c.canonical.new.work) z 8 c.canonical.result in
     subst P same c.canonical.ensures
