@@ -8,7 +8,6 @@ ghost use Rattle.cg_nodes.specs.Games.{StandFor, StandsFor};
 ghost use Rattle.cg_moves.specs.declared.player.Player.TheVariants.{Left};
 ghost use Rattle.cg_moves.specs.Graph.{AreNext};
 ghost use Rattle.cg_moves.specs.Raw.{raw};
-ghost use Rattle.cg_moves.specs.Lawful.{IsLawful};
 ghost use Rattle.cg_moves.specs.Rules.{boards_after, followers};
 ghost use Rattle.cg_values.specs.Notes.{AreNoted, IsNoted, MayNote};
 ghost use Rattle.cg_values.specs.Parts.{FrontsNoted, HoldAt, part_items, parts_of, values_of};
@@ -45,7 +44,6 @@ fn part_value<B: BoardForms, S: CellStore<GameFacts<B>>, R: Rules, A: Adder>(
     part: Part<'_>,
     start: u64,
 ) -> Result<Handle, ValueFault>
-    requires lawful { IsLawful (R.game rules.now) }
     requires has { (R.game rules.now).has part.board.now ≡ true }
     requires notes { MayNote B.form (R.game rules.now) }
     requires lefts { part.lefts ≡ length (boards_after (R.game rules.now) Left part.board.now) }
@@ -61,6 +59,8 @@ fn part_value<B: BoardForms, S: CellStore<GameFacts<B>>, R: Rules, A: Adder>(
         (part_items work.old.limit (R.game rules.now) part.entry.board.now) result }
     ensures spare { start ≤ (work_state S.state work.new).spare }
 {
+    // Called for the proof alone: the rules are lawful.
+    rules.lawful();
     let mut places = part.places;
     let mut options = SmallVec::with_capacity(alloc, part.counts.len())?;
     for count in part.counts {
@@ -85,7 +85,6 @@ pub(crate) fn part_values<B: BoardForms, S: CellStore<GameFacts<B>>, R: Rules, A
     adder: &A,
     graph: &PositionGraph,
 ) -> Result<Vec<Handle>, ValueFault>
-    requires lawful { IsLawful (R.game rules.now) }
     requires has { All (λ p. (R.game rules.now).has p ≡ true) graph.now.boards }
     requires notes { MayNote B.form (R.game rules.now) }
     requires next { AreNext (R.game rules.now) (parts_of (R.game rules.now)) graph.now.counts.items graph.now.places.items []
