@@ -56,7 +56,14 @@ pub(crate) fn joined<B: BoardForms, S: CellStore<GameFacts<B>>, A: Adder>(
         result }
 {
     match places.split_first() {
-        Some((first, others)) => add_all(alloc, work, adder, handles[*first as usize], handles, others),
+        Some((first, others)) => add_all(
+            alloc,
+            work,
+            adder,
+            handles[*first as usize],
+            handles,
+            others,
+        ),
         None => canonical(alloc, work, &[], &[], 0),
     }
 }
