@@ -9,5 +9,6 @@ pub mod FirstPlace
 pub mod OtherLines
 pub mod ClosedSessions
 pub mod OneSession
+pub mod TermLevels
 pub mod GrammarLevels
 pub mod SessionLevels
