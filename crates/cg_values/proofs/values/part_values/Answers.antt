@@ -1,5 +1,7 @@
-use Rattle.std.proofs.Common.{rules, ◌<◌, length, ap, ◌∙◌, Err}
+use Rattle.std.proofs.Common.{rules, ◌<◌, length, ap, ◌∙◌, refl, Err}
 use Rattle.std.proofs.lemmas.Result.{err_from_is_err_and}
+use Rattle.cg_canon.proofs.Keeping.{keeps_then}
+use Rattle.cg_canon.proofs.MadeSteps.{made_memory}
 use Rattle.cg_canon.specs.Works.{work_state}
 use Rattle.cg_values.proofs.Fronts.{if_err}
 use Rattle.cg_values.proofs.HandleSteps.{hold-as}
@@ -66,6 +68,19 @@ returns-in_err-value-clause-fronts g c =
     if_err c.from_residual-in_err-value.result _ _ (p.1 ∙ ap Err p.2)
     (parts_fronts _ _ _ _ _ c.as_slice-board-items.ensures _ _ _ c.requires.next _ _ c.loop-place-test.true c.board-item.is _ _
     made _ _ c.part_value.ensures.made _ c.in_err-value.was)
+
+pub returns-in_err-push-clause-made : goal.returns-in_err-push-clause-made
+returns-in_err-push-clause-made g c =
+    let made = parts_told _ _ _ _ _ c.as_slice-board-items.ensures _ _ _ c.requires.next _ _ _ _ c.loop-place.invariant
+    c.prefetch_boards.ensures in
+    let p = err_from_is_err_and c.from_residual-in_err-push.result c.from_residual-in_err-push.ensures.1 in
+    made_memory _ _ _ c.from_residual-in_err-push.result (p.1 ∙ ap Err p.2)
+    (keeps_then _ _ _ made.keeps c.part_value.ensures.made.keeps)
+
+pub returns-in_err-push-clause-fronts : goal.returns-in_err-push-clause-fronts
+returns-in_err-push-clause-fronts g c =
+    let p = err_from_is_err_and c.from_residual-in_err-push.result c.from_residual-in_err-push.ensures.1 in
+    if_err c.from_residual-in_err-push.result _ _ (p.1 ∙ ap Err p.2) (λ other. absurd (other refl))
 
 pub loop-place-preserved : goal.loop-place-preserved
 loop-place-preserved g c =
