@@ -452,12 +452,12 @@ pub fn run<G>(game: G)
     )
 
     def with_claims(self, text, listing=LISTING):
-        """A repository with a crate and the top call, and with a page that has the text, one that has the listing, and three that
+        """A repository with a crate and the top call, and with a page that has the text, one that has the listing, and four that
         name the crate."""
         top = os.path.join(self.folder, "copy")
         shutil.rmtree(top, ignore_errors=True)
         self.copied()
-        pages = {f"docs/{name}.md": "cg_low\n" for name in ("DECISIONS", "DEVELOPING", "ADDING_A_GAME")}
+        pages = {f"docs/{name}.md": "cg_low\n" for name in ("DECISIONS", "DEVELOPING", "ADDING_A_GAME", "ADDING_A_QUESTION")}
         edit = "crates/cg_low/must-fail/one_less.edit"
         files = {"crates/cg_low/src/sums.rt": self.CODE, "crates/cg_low/specs/Games.antt": self.SPEC, edit: ""}
         files.update(self.SECOND, **{"crates/cg_session/src/session.rt": self.TOP})

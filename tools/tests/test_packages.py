@@ -200,6 +200,36 @@ class Checks(unittest.TestCase):
             self.assertEqual(sorted(left(layer)), ["/etc/passwd", "/usr/bin/no-such-program", folder, f"{folder}/file"])
 
 
+class Trial(unittest.TestCase):
+    """What the trial of an installed package finds."""
+
+    def found(self, **pages):
+        """What is wrong with the links of pages that are installed."""
+        with open(os.path.join(TOOLS, "release", "trial.py"), encoding="utf-8") as file:
+            code = file.read()
+        self.assertTrue(code.endswith("\nsys.exit(main())\n"))
+        space = {"__name__": "trial"}
+        with mock.patch.object(sys, "argv", ["trial", "/nowhere", "1.2.3"]):
+            exec(code[: -len("sys.exit(main())\n")], space)
+        with tempfile.TemporaryDirectory() as share:
+            folder = os.path.join(share, "doc", "cg", "docs")
+            os.makedirs(folder)
+            for name, text in pages.items():
+                with open(os.path.join(folder, f"{name}.md"), "w", encoding="utf-8") as page:
+                    page.write(text)
+            space["Place"]("deb", "/usr/bin", share).links()
+        return space["wrong"]
+
+    def test_links_of_installed_pages(self):
+        text = "[a](page1.md) [b](page2.md#b) ![c](../docs/page3.md) [d](https://a.example/b) [e](#e)\n```\n[f](gone.md)\n```\n"
+        pages = {f"page{n}": text for n in range(20)}
+        self.assertEqual(self.found(**pages), [])
+        gone = {**pages, "page1": text + "[g](../formal/Games.v)\n"}
+        self.assertEqual(self.found(**gone), ["deb: docs/page1.md has a link to ../formal/Games.v, which isn't installed"])
+        self.assertEqual(self.found(**{name: pages[name] for name in ("page1", "page2", "page3")}),
+                         ["deb: 3 pages with 9 links are too few"])
+
+
 class Parts(unittest.TestCase):
     """What the packages are made of."""
 
