@@ -2,6 +2,7 @@
 import json
 import os
 import shutil
+import subprocess
 import sys
 import unittest
 
@@ -108,6 +109,18 @@ class GateCost(Tried):
         self.assertEqual([seconds > 0 for seconds in figures["bikes"]], [True, True])
         self.assertRegex(written, r"\n\| cg_one \| 0\.[01] \| 0\.0 \| 0\.0 \| 0\.0 \| 0\.[01] \| 0\.1 \|\n")
         self.assertRegex(written, r"\ngate-cost: bikes took [\d.]+ and [\d.]+ minutes: ")
+
+    def test_other_provers(self):
+        """What the gate didn't start doesn't count."""
+        path = self.kit()
+        words = ["rattle", "check", "--crate-name", "cg_other"]
+        with subprocess.Popen(words, executable=os.path.join(self.folder, "check")) as other:
+            ended, written = self.run_tool("gate-cost", path=path)
+            other.kill()
+        self.addCleanup(shutil.rmtree, os.path.dirname(written.splitlines()[0].split()[-1]), True)
+        self.assertEqual(ended, 0, written)
+        self.assertIn("\n| cg_one |", written)
+        self.assertNotIn("cg_other", written)
 
     def test_a_gate_that_fails(self):
         self.assertEqual(self.run_gate(3, gate=3)[1]["status"], 3)
