@@ -168,6 +168,7 @@ class Threads(Tried):
         """Ctrl-C ends it, with a tally of what was compared."""
         environment = dict(os.environ, CG=self.program('touch "$0.begun"; sleep 0.1; exec "$REAL" "$@"'))
         words = [sys.executable, "-B", os.path.join(ROOT, "tools", "compare-workers"), "--jobs", "1", "100000"]
+        words = ["sh", "-c", 'trap "" INT; exec "$@"', "sh", *words]  # as a shell starts what runs in the background
         with subprocess.Popen(words, env=environment, stdout=subprocess.PIPE, stderr=subprocess.STDOUT) as started:
             for _ in range(600):
                 if os.path.exists(os.path.join(self.folder, "program.begun")):
