@@ -39,12 +39,12 @@ class InputOutput(Tried):
 
     def test_a_pipe_with_little_room(self):
         """A program that writes what is no answer into the room that is left."""
-        self.fault('"$REAL" "$@"; ended=$?; [ $ended = 4 ] && printf x; exit $ended',
+        self.fault('"$REAL" "$@"; ended=$?; [ $ended = 4 ] && LD_PRELOAD= /usr/bin/printf x; exit $ended',
                    "a pipe that doesn't wait, and has room for 353 bytes: (4, False, b'')")
 
     def test_a_call_that_is_made_again(self):
         """A program that goes on after EINTR, EAGAIN or another error of one call."""
-        self.fault('cat > "$0.$$"; FAIL_WRITE= "$REAL" "$@" < "$0.$$"', "call 1 of write fails by EINTR: (0, b'2: ^*")
+        self.fault('timeout 3 cat > "$0.$$"; FAIL_WRITE= "$REAL" "$@" < "$0.$$"', "call 1 of write fails by EINTR: (0, b'2: ^*")
 
     def test_another_status(self):
         self.fault('"$REAL" "$@"; ended=$?; [ $ended = 4 ] && exit 3; exit $ended', "/dev/full: (3, None, b'')")
@@ -113,7 +113,7 @@ class Stack(Tried):
         self.assertIn("the deepest inputs are answered at ulimit -s", written)
 
     def test_a_recursion_without_a_depth(self):
-        top = self.spoilt("stack-bound", '    ("cg_eval::evaluate::", 1_024, "levels of an expression"),\n', "")
+        top = self.spoilt("stack-bound", '    ("cg_eval::evaluate::", 1_024, "its measure: the levels of an expression"),\n', "")
         self.fails("cg_eval::evaluate::", "stack-bound", top=top)
         self.fails("NO DEPTH IS KNOWN", "stack-bound", top=top)
 
